@@ -1,0 +1,63 @@
+//! The program: runs a script of NVMe paths and prints what came of it.
+#![tactic(auto)]
+
+use mp_io::host::{HostFolder, HostOut};
+use mp_run::status::{BoxError, ScriptError, Status};
+use mp_run::top::top_plain;
+use mp_topology::errors::{Place, TopologyError};
+use std::alloc::{AllocError, Global};
+use std::io;
+
+#[cfg(test)]
+mod tests;
+
+/// A refusal that carries a place of the topology.
+fn place_line(alloc: Global, name: &str, place: Place) -> Result<String, AllocError> {
+    format!(in alloc; "topology refused {name} {place}")
+}
+
+/// What is said of a refused topology.
+fn topology_line(alloc: Global, error: TopologyError) -> Result<String, AllocError> {
+    match error {
+        TopologyError::NotToml => String::from_str(alloc, "topology refused NotToml"),
+        TopologyError::Field(place) => place_line(alloc, "Field", place),
+        TopologyError::Range(place) => place_line(alloc, "Range", place),
+        TopologyError::Duplicate(place) => place_line(alloc, "Duplicate", place),
+        TopologyError::Limit(place) => place_line(alloc, "Limit", place),
+        TopologyError::NoMemory => String::from_str(alloc, "out of memory"),
+        TopologyError::NotBuilt => String::from_str(alloc, "topology refused NotBuilt"),
+    }
+}
+
+/// What is said of a refused script.
+fn script_line(alloc: Global, error: ScriptError) -> Result<String, AllocError> {
+    match error {
+        ScriptError::NotBuilt(line) => format!(in alloc; "script refused NotBuilt {line}"),
+        ScriptError::NoMemory => String::from_str(alloc, "out of memory"),
+    }
+}
+
+/// What is said of a status other than `Ok`.
+fn fault_line(alloc: Global, status: Status) -> Result<String, AllocError> {
+    match status {
+        Status::Ok => Ok(String::new(alloc)),
+        Status::NoMemory => String::from_str(alloc, "out of memory"),
+        Status::Usage => String::from_str(alloc, "usage"),
+        Status::ReadFault(file) => format!(in alloc; "read fault in file {file}"),
+        Status::WriteFault => String::from_str(alloc, "write fault"),
+        Status::Topology(error) => topology_line(alloc, error),
+        Status::Script(error) => script_line(alloc, error),
+        Status::Boxes(BoxError::NotBuilt(length)) => {
+            format!(in alloc; "boxes refused NotBuilt {length}")
+        }
+        Status::TooLong(file) => format!(in alloc; "file {file} is too long"),
+    }
+}
+
+/// Says on standard error why the call did not end with `Ok`.
+fn say_fault(rt: &impl Print, alloc: Global, status: Status) -> io::Result<()> {
+    match fault_line(alloc, status) {
+        Ok(line) => eprintln!(rt; "anamp: {line}"),
+        Err(_) => eprintln!(rt; "anamp: out of memory"),
+    }
+}

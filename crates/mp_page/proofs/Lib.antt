@@ -1,0 +1,11 @@
+pub mod Checks
+pub mod Steps
+pub mod Pages
+pub mod Written
+pub mod LastNamed
+pub mod BoxLaws
+pub mod Reserved
+pub mod Refused
+pub mod Files
+pub mod Writable
+pub mod Stated

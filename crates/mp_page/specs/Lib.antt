@@ -1,0 +1,6 @@
+pub mod Page
+pub mod Grammar
+pub mod Written
+pub mod Gifts
+pub mod Boxes
+pub mod Text

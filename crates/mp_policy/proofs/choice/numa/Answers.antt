@@ -1,0 +1,17 @@
+use Rattle.std.proofs.Common.{◌≡◌, ◌∙◌, sym, refl, None}
+use Rattle.mp_policy.specs.PathTable.{paths_of}
+use Rattle.mp_policy.specs.Choices.{distance_to, numa_choice}
+use Rattle.mp_policy.proofs.NoChoice.{nearest_choice-none, slot_none}
+use Rattle.mp_policy.proofs.choice.numa.Goals as goal
+
+pub returns : goal.returns
+returns c =
+    let paths = paths_of c.args.reading.now in
+    let chosen = numa_choice c.args.near.now c.args.node paths in
+    let none = nearest_choice-none (distance_to c.args.near.now c.args.node) paths in
+    let is = c.slot_of.ensures ∙ rw c.numa_path-path.ensures refl in
+    let slot = slot_none chosen in
+    record {
+      choice = is;
+      none = (λ e. none.0 (slot.0 (sym is ∙ e)), λ e. is ∙ slot.1 (none.1 e));
+    }

@@ -1,0 +1,3 @@
+pub mod PathTable
+pub mod Choices
+pub mod Nearer

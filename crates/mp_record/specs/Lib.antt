@@ -1,0 +1,7 @@
+pub mod NotesView
+pub mod RunView
+pub mod Words
+pub mod NoteText
+pub mod EventText
+pub mod RunText
+pub mod NotedText

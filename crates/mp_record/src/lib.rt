@@ -1,0 +1,15 @@
+//! What a run leaves, and its text.
+#![tactic(auto)]
+
+pub mod event;
+mod event_text;
+mod history_text;
+mod lane_text;
+mod note_text;
+pub mod notes;
+mod request_text;
+pub mod run;
+#[cfg(test)]
+mod tests;
+pub mod text;
+mod words;

@@ -1,0 +1,214 @@
+//! Words of the run text.
+
+ghost use Rattle.std.specs.Prelude.{◌≡◌, ◌++◌, OnOk, codes, string_bytes};
+ghost use Rattle.std.specs.Fmt.{decimal};
+ghost use Rattle.mp_record.specs.Words.{one_number, two_numbers, three_numbers, pair_word, comma, dash, letter, policy_word, cstate_word, grace_word, state_word, flags_word, maker_word, path_word, name_of, list_word, status_word};
+
+use mp_topology::topology::Topology;
+use mp_words::entry::Grace;
+use mp_words::numbers::{Ctrl, Slot};
+use mp_words::op::Maker;
+use mp_words::row::{CState, Policy, Row};
+use std::alloc::AllocError;
+
+/// A word and a number.
+pub(crate) fn put_one(text: &mut String, word: &str, a: u32) -> Result<(), AllocError>
+    ensures { OnOk result (string_bytes text.new ≡ string_bytes text.old ++ one_number word.now a) }
+{
+    write!(text, "{word} {a}")
+}
+
+/// A word and two numbers.
+pub(crate) fn put_two(text: &mut String, word: &str, a: u32, b: u32) -> Result<(), AllocError>
+    ensures { OnOk result (string_bytes text.new ≡ string_bytes text.old ++ two_numbers word.now a b) }
+{
+    write!(text, "{word} {a} {b}")
+}
+
+/// A word and three numbers.
+pub(crate) fn put_three(
+    text: &mut String,
+    word: &str,
+    a: u32,
+    b: u32,
+    c: u32,
+) -> Result<(), AllocError>
+    ensures { OnOk result (string_bytes text.new ≡ string_bytes text.old ++ three_numbers word.now a b c) }
+{
+    write!(text, "{word} {a} {b} {c}")
+}
+
+/// Two numbers with a colon between them.
+pub(crate) fn put_pair(text: &mut String, a: u32, b: u32) -> Result<(), AllocError>
+    ensures { OnOk result (string_bytes text.new ≡ string_bytes text.old ++ pair_word a b) }
+{
+    write!(text, "{a}:{b}")
+}
+
+/// The comma before a further item of a list.
+pub(crate) fn put_comma(text: &mut String, further: bool) -> Result<(), AllocError>
+    ensures { OnOk result (string_bytes text.new ≡ string_bytes text.old ++ comma further) }
+{
+    if further {
+        return text.push_str(",");
+    }
+    Ok(())
+}
+
+/// The dash of a list without items.
+pub(crate) fn put_dash(text: &mut String, further: bool) -> Result<(), AllocError>
+    ensures { OnOk result (string_bytes text.new ≡ string_bytes text.old ++ dash further) }
+{
+    if further {
+        return Ok(());
+    }
+    text.push_str("-")
+}
+
+/// The name of a policy.
+pub(crate) fn policy_name(policy: Policy) -> &'static str
+    ensures { result.now ≡ policy_word policy }
+{
+    match policy {
+        Policy::Numa => "numa",
+        Policy::RoundRobin => "round-robin",
+        Policy::QueueDepth => "queue-depth",
+    }
+}
+
+/// The name of a controller's state.
+pub(crate) fn cstate_name(cstate: CState) -> &'static str
+    ensures { result.now ≡ cstate_word cstate }
+{
+    match cstate {
+        CState::New => "new",
+        CState::Live => "live",
+        CState::Resetting => "resetting",
+        CState::Connecting => "connecting",
+        CState::Deleting => "deleting",
+        CState::DeletingNoio => "deleting-noio",
+        CState::Dead => "dead",
+    }
+}
+
+/// The letter of a grace period.
+pub(crate) fn grace_name(grace: Grace) -> &'static str
+    ensures { result.now ≡ grace_word grace }
+{
+    match grace {
+        Grace::A => "a",
+        Grace::B => "b",
+    }
+}
+
+/// The name of a controller, or nothing where the topology has none of this number.
+pub(crate) fn controller_name<'t>(topology: &'t Topology, ctrl: Ctrl) -> &'t str
+    ensures { result.now ≡ name_of topology.now ctrl }
+{
+    match topology.controllers.as_slice().get(ctrl.get() as usize) {
+        Some(controller) => controller.name.as_str(),
+        None => "",
+    }
+}
+
+/// The name of an ANA state.
+fn put_state(text: &mut String, state: u8) -> Result<(), AllocError>
+    ensures { OnOk result (string_bytes text.new ≡ string_bytes text.old ++ state_word state) }
+{
+    match state {
+        1 => text.push_str("optimized"),
+        2 => text.push_str("non-optimized"),
+        3 => text.push_str("inaccessible"),
+        4 => text.push_str("persistent-loss"),
+        15 => text.push_str("change"),
+        _ => write!(text, "reserved-{state}"),
+    }
+}
+
+/// The letter of a flag, where it is on.
+fn put_letter(text: &mut String, on: bool, word: &str) -> Result<(), AllocError>
+    ensures { OnOk result (string_bytes text.new ≡ string_bytes text.old ++ letter on word.now) }
+{
+    if on {
+        return text.push_str(word);
+    }
+    Ok(())
+}
+
+/// The letters of the flags that are on, or a dash.
+fn put_flags(text: &mut String, row: Row) -> Result<(), AllocError>
+    ensures { OnOk result (string_bytes text.new ≡ string_bytes text.old ++ flags_word row) }
+{
+    if row.pending || row.ready || row.armed || row.marked || row.ana {
+        put_letter(text, row.pending, "p")?;
+        put_letter(text, row.ready, "r")?;
+        put_letter(text, row.armed, "a")?;
+        put_letter(text, row.marked, "m")?;
+        put_letter(text, row.ana, "n")
+    } else {
+        text.push_str("-")
+    }
+}
+
+/// Who made a version.
+pub(crate) fn put_maker(text: &mut String, maker: Maker) -> Result<(), AllocError>
+    ensures { OnOk result (string_bytes text.new ≡ string_bytes text.old ++ maker_word maker) }
+{
+    match maker {
+        Maker::Start => text.push_str("open"),
+        Maker::Line { lane, line } => {
+            let lane = lane.get();
+            write!(text, "{lane}.{line}")
+        }
+        Maker::Hop { lane, req, hop } => {
+            let lane = lane.get();
+            let req = req.get();
+            write!(text, "{lane}/{req}.{hop}")
+        }
+    }
+}
+
+/// A path's controller, its state, the ANA state and the flags; or that the slot is free.
+pub(crate) fn put_path(text: &mut String, topology: &Topology, row: Row) -> Result<(), AllocError>
+    ensures { OnOk result (string_bytes text.new ≡ string_bytes text.old ++ path_word topology.now row) }
+{
+    if row.state == 0 {
+        return text.push_str("free");
+    }
+    let name = controller_name(topology, row.ctrl);
+    let cstate = cstate_name(row.cstate);
+    write!(text, "{name} {cstate} ")?;
+    put_state(text, row.state)?;
+    text.push_str(" ")?;
+    put_flags(text, row)
+}
+
+/// Slots joined by commas, or a dash.
+pub(crate) fn put_slots(text: &mut String, slots: &[Slot]) -> Result<(), AllocError>
+    ensures { OnOk result (string_bytes text.new ≡ string_bytes text.old ++ list_word decimal slots.now) }
+{
+    let Some((first, rest)) = slots.split_first() else {
+        return text.push_str("-");
+    };
+    let first = first.get();
+    write!(text, "{first}")?;
+    for slot in rest {
+        let slot = slot.get();
+        write!(text, ",{slot}")?;
+    }
+    Ok(())
+}
+
+/// Statuses joined by commas, or a dash.
+pub(crate) fn put_statuses(text: &mut String, statuses: &[u16]) -> Result<(), AllocError>
+    ensures { OnOk result (string_bytes text.new ≡ string_bytes text.old ++ list_word status_word statuses.now) }
+{
+    let Some((first, rest)) = statuses.split_first() else {
+        return text.push_str("-");
+    };
+    write!(text, "{first:04X}")?;
+    for status in rest {
+        write!(text, ",{status:04X}")?;
+    }
+    Ok(())
+}

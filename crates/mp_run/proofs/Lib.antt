@@ -1,0 +1,15 @@
+pub mod Requests
+pub mod SubmitStep
+pub mod Distinct
+pub mod FinishStep
+pub mod Landed
+pub mod Chosen
+pub mod Lines
+pub mod OnTurns
+pub mod OpeningSlots
+pub mod Placed
+pub mod OpeningReading
+pub mod OneLaneRun
+pub mod Scripts
+pub mod HeldLines
+pub mod Outcomes

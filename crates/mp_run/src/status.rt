@@ -1,0 +1,65 @@
+//! How a call of the program ends.
+
+use mp_topology::errors::TopologyError;
+use thiserror::Error;
+
+/// Why a script isn't run.
+#[derive(Clone, Copy, Debug, Error)]
+pub enum ScriptError {
+    #[error("line {0} asks for what can't be run yet")]
+    NotBuilt(u32),
+    #[error("out of memory")]
+    NoMemory,
+}
+
+/// Why boxes aren't read.
+#[derive(Clone, Copy, Debug, Error)]
+pub enum BoxError {
+    #[error("a file of {0} bytes has boxes, which can't be read yet")]
+    NotBuilt(u32),
+}
+
+/// How a call of the program ends.
+#[derive(Clone, Copy)]
+pub enum Status {
+    /// The text was written.
+    Ok,
+    /// Memory ran out.
+    NoMemory,
+    /// The words are none of the forms.
+    Usage,
+    /// The file with this number, from 1, couldn't be read.
+    ReadFault(u8),
+    /// The output didn't take the text.
+    WriteFault,
+    /// The topology is refused.
+    Topology(TopologyError),
+    /// The script is refused.
+    Script(ScriptError),
+    /// The boxes are refused.
+    Boxes(BoxError),
+    /// The file with this number, from 1, has more than 16,777,216 bytes.
+    TooLong(u8),
+}
+
+impl Status {
+    ghost use Rattle.std.specs.Prelude.{◌≡◌};
+    ghost use Rattle.mp_run.specs.Status.{code_of};
+
+    /// The number of the status, with which the program ends.
+    pub fn code(&self) -> u8
+        ensures { result ≡ code_of self.now }
+    {
+        match self {
+            Status::Ok => 0,
+            Status::NoMemory => 1,
+            Status::Usage => 2,
+            Status::ReadFault(_) => 3,
+            Status::WriteFault => 4,
+            Status::Topology(_) => 5,
+            Status::Script(_) => 6,
+            Status::Boxes(_) => 7,
+            Status::TooLong(_) => 8,
+        }
+    }
+}

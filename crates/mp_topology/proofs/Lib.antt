@@ -1,0 +1,11 @@
+pub mod Seen
+pub mod Values
+pub mod Places
+pub mod EachController
+pub mod EachOpening
+pub mod Filled
+pub mod Gives
+pub mod Unless
+pub mod Passing
+pub mod Facts
+pub mod BuiltFacts

@@ -1,0 +1,8 @@
+use Rattle.std.proofs.Common.{◌≡◌, true, take, map}
+use Rattle.std.specs.List.{list_all}
+use Rattle.toml.specs.View.{view}
+use Rattle.mp_topology.specs.Distance.{is_distance}
+use Rattle.mp_topology.proofs.distance.are_distances.Given as goal
+
+abbrev pub invariant-loop-item : goal.invariant-loop-item
+invariant-loop-item l = list_all is_distance (map view (take l.item-index l.items)) ≡ true

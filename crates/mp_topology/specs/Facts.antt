@@ -1,0 +1,42 @@
+-- What holds of each topology that is read.
+use Rattle.std.specs.Prelude.{◌≡◌, ◌≢◌, ◌<◌, ◌≤◌, true, false, [], length, None, IfSome, IsSome, All, HoldsAt}
+use Rattle.std.specs.List.{AllPairs}
+use Rattle.mp_words.specs.declared.row.CState.TheVariants.{Live}
+use Rattle.mp_words.specs.declared.row.Policy.TheVariants.{Numa}
+use Rattle.mp_topology.specs.Controllers.{is_name}
+use Rattle.mp_topology.specs.declared.topology.Controller.{Controller}
+use Rattle.mp_topology.specs.declared.topology.Topology.{Topology}
+
+-- a controller that reports ANA has a page
+abbrev pub IsPaged : Controller → Type 0
+IsPaged c = c.ana ≡ true → IsSome c.page
+
+-- what holds of each
+pub record IsTopology (t : Topology) : Type 0 where
+  pub nsid : 1 ≤ t.nsid
+  pub group_least : 1 ≤ t.group
+  pub group_most : t.group ≤ t.anagrpmax
+  pub nodes_least : 1 ≤ t.near.nodes
+  pub nodes_most : t.near.nodes ≤ 8
+  pub controllers_least : 1 ≤ length t.controllers
+  pub controllers_most : length t.controllers ≤ 64
+  pub names : All (λ c. is_name c.name ≡ true) t.controllers
+  pub names_once : AllPairs (λ c d. c.name ≢ d.name) t.controllers
+  pub homes : All (λ c. IfSome c.node (λ n. n < t.near.nodes)) t.controllers
+  pub opening_most : length t.opening ≤ 8
+  pub opening_there : All (λ p. p < length t.controllers) t.opening
+  pub opening_once : AllPairs (λ p q. p ≢ q) t.opening
+  pub opening_paged : All (λ p. HoldsAt IsPaged t.controllers p) t.opening
+  pub pages : All (λ c. IfSome c.page (λ p. p < 1024)) t.controllers
+
+-- a controller as the program can run it so far
+pub record IsPlain (c : Controller) : Type 0 where
+  pub ana : c.ana ≡ false
+  pub state : c.state ≡ Live
+  pub page : c.page ≡ None
+
+-- a topology as the program can run it so far
+pub record IsBuilt (t : Topology) : Type 0 where
+  pub policy : t.policy ≡ Numa
+  pub opening : t.opening ≢ []
+  pub controllers : All IsPlain t.controllers

@@ -1,0 +1,10 @@
+pub mod PlaceText
+pub mod Unless
+pub mod Fields
+pub mod Distance
+pub mod Controllers
+pub mod Opening
+pub mod Near
+pub mod Topology
+pub mod Facts
+pub mod Fits

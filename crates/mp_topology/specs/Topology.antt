@@ -1,0 +1,127 @@
+-- The topology that a table is, and the checks of the table in their order.
+use Rattle.std.specs.Prelude.{◌≡◌, IsUtf8, ℕ, Bool, true, false, ◌&&◌, not, ◌==◌, if◌then◌else◌, is_some, List, [], ◌∷◌, ◌++◌, length, codes, Option, Some, None, Result, Err, option_and_then, unwrap_or}
+use Rattle.std.specs.List.{list_all}
+use Rattle.std.specs.Str.{bytes_eq, is_utf8}
+use Rattle.toml.specs.Data.{Data, Members}
+use Rattle.toml.specs.Parse.{parse_document}
+use Rattle.mp_checks.specs.Checks.{first_fault, if_there}
+use Rattle.mp_words.specs.declared.row.Policy.{Policy}
+use Rattle.mp_words.specs.declared.row.Policy.TheVariants.{Numa, RoundRobin, QueueDepth}
+use Rattle.mp_topology.specs.Fields.{at, is_missing, integer_at, text_at, number_of, optional_of, number_checks, optional_checks}
+use Rattle.mp_topology.specs.Unless.{value_unless}
+use Rattle.mp_topology.specs.Distance.{distance_checks, distances_of}
+use Rattle.mp_topology.specs.Controllers.{fields_of, controller_items, controllers_checks, controllers_of, names_of}
+use Rattle.mp_topology.specs.Opening.{opening_checks, opening_of, opening_page_checks}
+use Rattle.mp_topology.specs.Near.{near_of}
+use Rattle.mp_topology.specs.declared.errors.Field.TheVariants as field
+use Rattle.mp_topology.specs.declared.errors.TopologyError.{TopologyError}
+use Rattle.mp_topology.specs.declared.errors.TopologyError.TheVariants as errors
+use Rattle.mp_topology.specs.declared.topology.Topology.{Topology}
+
+-- ---- the numbers
+
+unfoldable pub nsid_checks : Members → List (Bool × TopologyError)
+nsid_checks t = number_checks (codes "nsid") 1 4294967294 (at field.Nsid 0) t
+
+unfoldable pub nsid_of : Members → ℕ
+nsid_of t = number_of (integer_at (codes "nsid") t)
+
+unfoldable pub anagrpmax_checks : Members → List (Bool × TopologyError)
+anagrpmax_checks t = number_checks (codes "anagrpmax") 1 4294967295 (at field.Anagrpmax 0) t
+
+unfoldable pub anagrpmax_of : Members → ℕ
+anagrpmax_of t = number_of (integer_at (codes "anagrpmax") t)
+
+unfoldable pub group_checks : ℕ → Members → List (Bool × TopologyError)
+group_checks anagrpmax t = optional_checks (codes "group") 1 anagrpmax (at field.Group 0) t
+
+unfoldable pub group_of : Members → ℕ
+group_of t = unwrap_or (optional_of (integer_at (codes "group") t)) 1
+
+unfoldable pub nodes_checks : Members → List (Bool × TopologyError)
+nodes_checks t = number_checks (codes "nodes") 1 8 (at field.Nodes 0) t
+
+unfoldable pub nodes_of : Members → ℕ
+nodes_of t = number_of (integer_at (codes "nodes") t)
+
+-- ---- the policy
+
+abbrev pub policy_named : List ℕ → Option Policy
+policy_named s =
+    if bytes_eq s (codes "numa") then Some Numa
+    else if bytes_eq s (codes "round-robin") then Some RoundRobin
+    else if bytes_eq s (codes "queue-depth") then Some QueueDepth
+    else None
+
+unfoldable pub policy_checks : Members → List (Bool × TopologyError)
+policy_checks t =
+    (is_some (text_at (codes "policy") t), errors.Field (at field.Policy 0))
+    ∷ (if_there (λ s. is_some (policy_named s)) (text_at (codes "policy") t), errors.Range (at field.Policy 0))
+    ∷ []
+
+unfoldable pub policy_of : Members → Policy
+policy_of t = unwrap_or (option_and_then policy_named (text_at (codes "policy") t)) Numa
+
+-- ---- what can be run so far
+
+abbrev pub is_numa : Policy → Bool
+is_numa Numa = true
+is_numa RoundRobin = false
+is_numa QueueDepth = false
+
+-- a controller without a word on ANA, its state or its page
+unfoldable pub is_plain : Data → Bool
+is_plain d = is_missing (codes "ana") (fields_of d) && is_missing (codes "state") (fields_of d) && is_missing (codes "page") (fields_of d)
+
+unfoldable pub is_built : Policy → List ℕ → Members → Bool
+is_built policy opening t = is_numa policy && is_missing (codes "group") t && not (length opening == 0) && list_all is_plain (controller_items t)
+
+unfoldable pub built_checks : Policy → List ℕ → Members → List (Bool × TopologyError)
+built_checks policy opening t = (is_built policy opening t, errors.NotBuilt) ∷ []
+
+-- ---- the whole
+
+-- every check of a table, in order
+abbrev pub checks : Members → List (Bool × TopologyError)
+checks t =
+    nsid_checks t
+    ++ (anagrpmax_checks t
+    ++ (group_checks (anagrpmax_of t) t
+    ++ (policy_checks t
+    ++ (nodes_checks t
+    ++ (distance_checks (nodes_of t) t
+    ++ (controllers_checks (nodes_of t) t
+    ++ (opening_checks (names_of t) t
+    ++ (opening_page_checks (controllers_of t) (opening_of (names_of t) t)
+    ++ built_checks (policy_of t) (opening_of (names_of t) t) t))))))))
+
+-- the topology that a table is, where no check fails
+abbrev pub topology_of : Members → Topology
+topology_of t = record {
+  nsid = nsid_of t;
+  anagrpmax = anagrpmax_of t;
+  group = group_of t;
+  policy = policy_of t;
+  near = near_of (nodes_of t) (distances_of (nodes_of t) t) (controllers_of t);
+  controllers = controllers_of t;
+  opening = opening_of (names_of t) t;
+}
+
+-- the bytes are the text of this table
+pub record IsTable (bytes : List ℕ) (t : Members) : Type 0 where
+  pub utf8 : IsUtf8 bytes
+  pub parsed : parse_document bytes ≡ Some t
+
+-- ---- of the bytes
+
+-- the table whose text the bytes are
+abbrev pub table_in : List ℕ → Option Members
+table_in bytes = if is_utf8 bytes then parse_document bytes else None
+
+abbrev pub read_of : Option Members → Result Topology TopologyError
+read_of None = Err errors.NotToml
+read_of (Some t) = value_unless (first_fault (checks t)) (topology_of t)
+
+-- the topology that the bytes say, or why they say none
+unfoldable pub topology_in : List ℕ → Result Topology TopologyError
+topology_in bytes = read_of (table_in bytes)

@@ -1,0 +1,15 @@
+//! What a topology file says, and why a text is none.
+#![tactic(auto)]
+
+mod built;
+mod controllers;
+mod distance;
+pub mod errors;
+mod fields;
+mod fits;
+mod near;
+mod opening;
+pub mod reading;
+#[cfg(test)]
+mod tests;
+pub mod topology;

@@ -1,0 +1,6 @@
+pub mod Row
+pub mod Near
+pub mod Order
+pub mod Effect
+pub mod RequestView
+pub mod Request

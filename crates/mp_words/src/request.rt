@@ -1,0 +1,220 @@
+//! A request with its tries.
+
+ghost use Rattle.std.specs.Prelude.{◌≡◌, ◌≤◌, ◌+◌, ◌++◌, ◌∷◌, [], OnOk, Some, None, length, map, take, vec_len, vec_capacity};
+ghost use Rattle.std.specs.List.{last_or};
+ghost use Rattle.mp_words.specs.Request.{outcome_of, attempts_of, tried_of, asked_of, ended_tries, done_with};
+
+use crate::entry::RowEntry;
+use crate::note::Note;
+use crate::numbered::Numbered;
+use crate::numbers::{Node, ReqId};
+use crate::op::{Gift, Maker, Op};
+use crate::order::Order;
+use crate::reading::Reading;
+use crate::row::{CState, Policy, Row};
+use crate::trying::{Back, Outcome, Try, TryEnd};
+use std::alloc::Global;
+use std::marker::Model;
+use thiserror::Error;
+
+/// The most tries that a request may have.
+const MOST_TRIES: usize = 67_108_864;
+
+/// Why no room was made for a try.
+#[derive(Clone, Copy, Debug, Error)]
+pub enum SubmitError {
+    #[error("out of memory")]
+    NoMemory,
+}
+
+/// A request of the script: its number, the node that it was submitted on, and its tries so far.
+#[derive(Drop)]
+pub struct Request {
+    id: ReqId,
+    node: Node,
+    tries: Vec<Try>,
+}
+
+impl Model for Request {
+    ghost use Rattle.std.specs.Prelude.{◌≤◌, vec_len, vec_capacity, ◌-◌, min};
+    ghost use Rattle.mp_words.specs.RequestView.{RequestView};
+
+    ghost Value = { RequestView };
+
+    ghost view = { λ r. record { id = r.id; node = r.node; tries = r.tries.items; spare = min (vec_capacity r.tries) 67108864 - vec_len r.tries } };
+
+    ghost invariant = { λ r. vec_len r.tries ≤ 67108864 };
+}
+
+impl Request {
+    /// A request without tries. It takes no memory.
+    pub fn make(alloc: Global, id: ReqId, node: Node) -> Request
+        ensures id { result.id ≡ id }
+        ensures node { result.node ≡ node }
+        ensures tries { result.tries ≡ [] }
+    {
+        Request {
+            id,
+            node,
+            tries: Vec::new(alloc),
+        }
+    }
+
+    /// Makes room for one more try.
+    ///
+    /// # Errors
+    ///
+    /// `NoMemory` where memory runs out, and always where the request has 67,108,864 tries. The request is as it
+    /// was but for its room.
+    pub fn reserve(&mut self) -> Result<(), SubmitError>
+        ensures room { OnOk result (1 ≤ self.new.spare) }
+        ensures id { self.new.id ≡ self.old.id }
+        ensures node { self.new.node ≡ self.old.node }
+        ensures tries { self.new.tries ≡ self.old.tries }
+    {
+        if self.tries.len() == MOST_TRIES {
+            return Err(SubmitError::NoMemory);
+        }
+        self.tries.reserve(1).map_err(|_| SubmitError::NoMemory)
+    }
+
+    /// The tries, in order.
+    pub fn tries(&self) -> &[Try]
+        ensures { result.now ≡ self.now.tries }
+    {
+        self.tries.as_slice()
+    }
+
+    /// The node that it was submitted on, on which a requeue submits it again.
+    pub fn node(&self) -> Node
+        ensures { result ≡ self.now.node }
+    {
+        self.node
+    }
+
+    /// How many attempts were made.
+    pub fn attempts(&self) -> u32
+        ensures { result ≡ attempts_of (asked_of self.now).tries }
+    {
+        attempts_in(self.tries.as_slice())
+    }
+
+    /// How the request stands: it waits without tries, after a listed try and after one that came back.
+    pub fn outcome(&self) -> Outcome
+        ensures { result ≡ outcome_of (last_or None (asked_of self.now).tries) }
+    {
+        match self.tries.as_slice().last() {
+            None => Outcome::Waiting,
+            Some(last) => outcome_after(last),
+        }
+    }
+
+    /// Appends a try whose attempts are still to come. It takes no memory.
+    pub fn tried(&mut self, made: Try)
+        requires room { 1 ≤ self.old.spare }
+        requires waiting { outcome_of (last_or None (asked_of self.old).tries) ≡ Outcome.Waiting }
+        requires next { made.hop ≡ length self.old.tries + 1 }
+        requires count { made.count ≡ 0 }
+        requires back { made.back ≡ None }
+        ensures tries { self.new.tries ≡ self.old.tries ++ made ∷ [] }
+        ensures id { self.new.id ≡ self.old.id }
+        ensures node { self.new.node ≡ self.old.node }
+    {
+        // The proof of a push needs each type inside a try named here.
+        let _: (Option<TryEnd>, Option<Back>, Option<RowEntry>) = (None, None, None);
+        let _: (Option<Order>, Option<Row>, Option<Reading>) = (None, None, None);
+        let _: (Option<Note>, Option<Op>, Option<Maker>) = (None, None, None);
+        let _: (Option<CState>, Option<Policy>, Option<Gift>) = (None, None, None);
+        let _ = self.tries.push(made);
+    }
+
+    /// Writes the statuses of the attempts into the last try, of which the first `count` count, and how the request
+    /// came back.
+    pub fn ended(&mut self, statuses: [u16; 6], count: u8, back: Option<Back>)
+        requires sent { outcome_of (last_or None (asked_of self.old).tries) ≡ Outcome.Sent }
+        requires low { 1 ≤ count }
+        requires high { count ≤ 6 }
+        ensures tries { self.new.tries ≡ ended_tries statuses count back self.old.tries }
+        ensures id { self.new.id ≡ self.old.id }
+        ensures node { self.new.node ≡ self.old.node }
+        ensures room { self.new.spare ≡ self.old.spare }
+    {
+        end_last(&mut self.tries, statuses, count, back);
+    }
+}
+
+/// A request is ready to be listed where it waits.
+impl Numbered for Request {
+    ghost use Rattle.std.specs.Prelude.{◌≡◌, None};
+    ghost use Rattle.std.specs.List.{last_or};
+    ghost use Rattle.mp_words.specs.declared.trying.Outcome.TheVariants.{Waiting};
+    ghost use Rattle.mp_words.specs.Request.{asked_of, outcome_of};
+
+    ghost number = { λ r. r.id };
+
+    ghost IsReady = { λ r. outcome_of (last_or None (asked_of r).tries) ≡ Waiting };
+
+    fn id(&self) -> ReqId {
+        self.id
+    }
+}
+
+/// How a request stands after this try.
+fn outcome_after(last: &Try) -> Outcome
+    ensures { result ≡ outcome_of (Some (tried_of last.now)) }
+{
+    match last.end {
+        TryEnd::Listed => Outcome::Waiting,
+        TryEnd::Failed => Outcome::Failed,
+        TryEnd::Sent(_, _) => match last.back {
+            Some(_) => Outcome::Waiting,
+            None => done_with(&last.statuses, last.count),
+        },
+    }
+}
+
+/// How a sent request stands that didn't come back, by the statuses of which the first `count` count.
+fn done_with(statuses: &[u16; 6], count: u8) -> Outcome
+    ensures { result ≡ done_with (last_or None (take count statuses.now)) }
+{
+    let count = usize::from(count).min(6);
+    if count == 0 {
+        Outcome::Sent
+    } else {
+        Outcome::Done(statuses[count - 1])
+    }
+}
+
+/// How many attempts a try made.
+fn count_of(made: &Try) -> u32
+    ensures count { result ≡ length (tried_of made.now).statuses }
+    ensures most { result ≤ 6 }
+{
+    u32::from(made.count.min(6))
+}
+
+/// How many attempts these tries made.
+fn attempts_in(tries: &[Try]) -> u32
+    requires { length tries.now ≤ 67108864 }
+    ensures { result ≡ attempts_of (map tried_of tries.now) }
+{
+    let mut attempts = 0u32;
+    for made in tries {
+        attempts += count_of(made);
+    }
+    attempts
+}
+
+/// Writes into the last try how it ended.
+fn end_last(tries: &mut Vec<Try>, statuses: [u16; 6], count: u8, back: Option<Back>)
+    requires { 1 ≤ vec_len tries.old }
+    ensures tries { tries.new.items ≡ ended_tries statuses count back tries.old.items }
+    ensures length { vec_len tries.new ≡ vec_len tries.old }
+    ensures capacity { vec_capacity tries.new ≡ vec_capacity tries.old }
+{
+    let last = tries.len() - 1;
+    let made = &mut tries[last];
+    made.statuses = statuses;
+    made.count = count;
+    made.back = back;
+}
