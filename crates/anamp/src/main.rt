@@ -6,7 +6,10 @@ use mp_run::status::{BoxError, ScriptError, Status};
 use mp_run::top::top_plain;
 use mp_topology::errors::{Place, TopologyError};
 use std::alloc::{AllocError, Global};
-use std::io;
+use std::env;
+use std::io::{self, Eprint, ErrorKind};
+use std::process::ExitCode;
+use std::rt::Env;
 
 #[cfg(test)]
 mod tests;
@@ -55,9 +58,44 @@ fn fault_line(alloc: Global, status: Status) -> Result<String, AllocError> {
 }
 
 /// Says on standard error why the call did not end with `Ok`.
-fn say_fault(rt: &impl Print, alloc: Global, status: Status) -> io::Result<()> {
+fn say_fault(rt: &impl Eprint, alloc: Global, status: Status) -> io::Result<()> {
     match fault_line(alloc, status) {
         Ok(line) => eprintln!(rt; "anamp: {line}"),
         Err(_) => eprintln!(rt; "anamp: out of memory"),
     }
+}
+
+/// The words of the command line, without the program's name. Words that aren't UTF-8 are of none of the forms.
+fn words(rt: &(impl Env + AllocGlobal)) -> Result<Vec<String>, Status> {
+    let mut words = Vec::new(rt.alloc());
+    let args = match env::args(rt) {
+        Ok(args) => args,
+        Err(error) => {
+            return Err(match error.kind() {
+                ErrorKind::InvalidData => Status::Usage,
+                _ => Status::NoMemory,
+            });
+        }
+    };
+    for word in args.skip(1) {
+        if words.push(word).is_err() {
+            return Err(Status::NoMemory);
+        }
+    }
+    Ok(words)
+}
+
+fn main(rt: HostRuntime) -> ExitCode {
+    let status = match words(&rt) {
+        Ok(words) => {
+            let mut folder = HostFolder::make(&rt);
+            let mut out = HostOut::make(&rt);
+            top_plain(rt.alloc(), &words, &mut folder, &mut out)
+        }
+        Err(status) => status,
+    };
+    if status.code() != 0 {
+        let _ = say_fault(&rt, rt.alloc(), status);
+    }
+    ExitCode::from(status.code())
 }

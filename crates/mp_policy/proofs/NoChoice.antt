@@ -64,12 +64,12 @@ or_none (Some p) b e = absurd cc
 
 -- no path is chosen exactly where none is usable
 pub nearest_choice-none : (d : Path → ℕ) (paths : List Path) → (nearest_choice d paths ≡ None) ↔ (has_usable paths ≡ false)
-nearest_choice-none d paths =
-    ( λ none.
-        let both = or_none (first_nearest d (filter (is_in 1) paths)) (first_nearest d (filter (is_in 2) paths)) none in
-        none_usable paths (nearest_none d (filter (is_in 1) paths) both.0) (nearest_none d (filter (is_in 2) paths) both.1)
-    , λ unusable. let both = usable_none paths unusable in rw (both.0, both.1) refl
-    )
+nearest_choice-none d paths = (
+  λ none.
+      let both = or_none (first_nearest d (filter (is_in 1) paths)) (first_nearest d (filter (is_in 2) paths)) none in
+      none_usable paths (nearest_none d (filter (is_in 1) paths) both.0) (nearest_none d (filter (is_in 2) paths) both.1),
+  λ unusable. let both = usable_none paths unusable in rw (both.0, both.1) refl,
+)
 
 -- a path has a slot
 pub slot_none : (o : Option Path) → (option_map (λ (path : Path). path.slot) o ≡ None) ↔ (o ≡ None)

@@ -27,7 +27,7 @@ use Rattle.mp_run.proofs.Distinct.{distinct_middle, has-reqs}
 land_one : (s : State) (f : Flight) (flights : List Flight) (done rest : List Asked) (a : Asked)
     → f.lane ≡ 0 → a.req ≡ f.req → a.tries ≡ flying f ∷ [] → has_req f.req done ≡ false → has_req f.req rest ≡ false → filter (λ g. not (g.req == f.req)) (f ∷ flights) ≡ flights
     → finished [] 0 (with_lane s (f ∷ flights) (done ++ a ∷ rest)) f
-        ≡ tells (with_lane s flights (done ++ record a { tries = flown f ∷ [] } ∷ rest)) (fin_of f ∷ [])
+    ≡ tells (with_lane s flights (done ++ record a { tries = flown f ∷ [] } ∷ rest)) (fin_of f ∷ [])
 land_one s f flights done rest a lane is tries before after others =
     let from : State = with_lane s (f ∷ flights) (done ++ a ∷ rest) in
     let same : (a.req == f.req) ≡ true = eq-eqb a.req f.req is in
@@ -71,13 +71,13 @@ land_all i at s (f ∷ flights) done (a ∷ rest) none lane fly distinct =
     let before : has_req f.req done ≡ false = ap (λ r. has_req r done) (sym fly.1) ∙ sym (has-reqs done a.req) ∙ around.0 in
     let after : has_req f.req rest ≡ false = ap (λ r. has_req r rest) (sym fly.1) ∙ sym (has-reqs rest a.req) ∙ around.1 in
     let one : finished i.answers at.lane from f ≡ tells (with_lane s flights (done ++ b ∷ rest)) (fin_of f ∷ []) =
-        ap (λ answers. finished answers at.lane from f) none ∙ ap (λ l. finished [] l from f) lane
-        ∙ land_one s f flights done rest a fly.0 fly.1 fly.2 before after (filter_first f flights rest fly.3 after) in
+    ap (λ answers. finished answers at.lane from f) none ∙ ap (λ l. finished [] l from f) lane
+    ∙ land_one s f flights done rest a fly.0 fly.1 fly.2 before after (filter_first f flights rest fly.3 after) in
     let regrouped : with_lane s flights (done ++ b ∷ rest) ≡ with_lane s flights ((done ++ b ∷ []) ++ rest) = ap (with_lane s flights) (sym (append_assoc done (b ∷ []) rest)) in
     let others : each (call i at) (with_lane s flights (done ++ b ∷ rest)) (map finish flights) ≡ tells (with_lane s [] (done ++ b ∷ landed_all flights rest)) (map fin_of flights) =
-        ap (λ (t : State). each (call i at) t (map finish flights)) regrouped
-        ∙ land_all i at s flights (done ++ b ∷ []) rest none lane fly.3 (rw (reqs_landed f done rest a) distinct)
-        ∙ ap (λ rs. tells (with_lane s [] rs) (map fin_of flights)) (append_assoc done (b ∷ []) (landed_all flights rest)) in
+    ap (λ (t : State). each (call i at) t (map finish flights)) regrouped
+    ∙ land_all i at s flights (done ++ b ∷ []) rest none lane fly.3 (rw (reqs_landed f done rest a) distinct)
+    ∙ ap (λ rs. tells (with_lane s [] rs) (map fin_of flights)) (append_assoc done (b ∷ []) (landed_all flights rest)) in
     ap (λ (step : Stepped). joined step (each (call i at) step.state (map finish flights))) one
     ∙ ap (λ (step : Stepped). joined (tells (with_lane s flights (done ++ b ∷ rest)) (fin_of f ∷ [])) step) others
 
@@ -85,7 +85,7 @@ land_all i at s (f ∷ flights) done (a ∷ rest) none lane fly distinct =
 pub finish_end : (i : Inputs) (s : State) (flights : List Flight) (done rest : List Asked)
     → i.answers ≡ [] → Fly flights rest → IsDistinct (map (λ a. a.req) (done ++ rest))
     → turn_step i 0 (with_lane s flights (done ++ rest)) None
-        ≡ tells (with_lane s [] (done ++ landed_all flights rest)) (At 0 (said.Finish (length flights)) ∷ map fin_of flights)
+    ≡ tells (with_lane s [] (done ++ landed_all flights rest)) (At 0 (said.Finish (length flights)) ∷ map fin_of flights)
 finish_end i s flights done rest none fly distinct =
     ap (λ (step : Stepped). joined (tells (with_lane s flights (done ++ rest)) (At 0 (said.Finish (length flights)) ∷ [])) step)
     (land_all i (place_of 0 None) s flights done rest none refl fly distinct)
@@ -94,7 +94,7 @@ finish_end i s flights done rest none fly distinct =
 pub finish_line : (i : Inputs) (s : State) (flights : List Flight) (done rest : List Asked) (number : ℕ)
     → i.answers ≡ [] → Fly flights rest → IsDistinct (map (λ a. a.req) (done ++ rest))
     → turn_step i 0 (with_lane s flights (done ++ rest)) (Some (record { number = number; line = line.FinishAll }))
-        ≡ tells (with_lane s [] (done ++ landed_all flights rest)) (At number (said.Finish (length flights)) ∷ map fin_of flights)
+    ≡ tells (with_lane s [] (done ++ landed_all flights rest)) (At number (said.Finish (length flights)) ∷ map fin_of flights)
 finish_line i s flights done rest number none fly distinct =
     ap (λ (step : Stepped). joined (tells (with_lane s flights (done ++ rest)) (At number (said.Finish (length flights)) ∷ [])) step)
     (land_all i (place_of 0 (Some (record { number = number; line = line.FinishAll }))) s flights done rest none refl fly distinct)

@@ -53,7 +53,7 @@ landed_next (g ∷ flights) (a ∷ requests) (suc place) f fly lt is = landed_ne
 -- one flight more has landed
 landed_suc : (flights : List Flight) (requests : List Asked) (place : ℕ) (f : Flight) → Fly flights requests → place < length flights → f ≡ get_or flights place f
     → set (landed_all (take place flights) requests) place (record (get_or (landed_all (take place flights) requests) place nobody) { tries = flown f ∷ [] })
-        ≡ landed_all (take (suc place) flights) requests
+    ≡ landed_all (take (suc place) flights) requests
 landed_suc [] requests place f fly lt is = absurd (omega arith)
 landed_suc (g ∷ flights) [] place f fly lt is = absurd fly
 landed_suc (g ∷ flights) (a ∷ requests) zero f fly lt is = ap (λ (h : Flight). record a { tries = flown h ∷ [] } ∷ requests) is
@@ -74,8 +74,8 @@ lands_next flights landed before place f within fly lt is =
 
 pub lands_more : (flights : List Flight) (landed : ℕ) (before : List Asked) (place : ℕ) (f : Flight) → landed ≤ length before → Fly flights (drop landed before) → place < length flights → f ≡ get_or flights place f
     → set (take landed before ++ landed_all (take place flights) (drop landed before)) (landed + place)
-        (record (get_or (take landed before ++ landed_all (take place flights) (drop landed before)) (landed + place) nobody) { tries = flown f ∷ [] })
-        ≡ take landed before ++ landed_all (take (place + 1) flights) (drop landed before)
+    (record (get_or (take landed before ++ landed_all (take place flights) (drop landed before)) (landed + place) nobody) { tries = flown f ∷ [] })
+    ≡ take landed before ++ landed_all (take (place + 1) flights) (drop landed before)
 lands_more flights landed before place f within fly lt is =
     let front = take landed before in
     let back = landed_all (take place flights) (drop landed before) in

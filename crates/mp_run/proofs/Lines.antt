@@ -84,7 +84,7 @@ fly_more (g ∷ flights) (b ∷ requests) f a fly lane is tries = (fly.0, fly.1,
 pub submit_ran : (t : Topology) (number req node : ℕ) (old new : Lane) (left : List ℕ) → t.policy ≡ Numa → Sends t number req node old new
     → InOrder old.landed old.flights.items old.requests.items (req ∷ left)
     → Runs (turn_step (inputs_of t) 0 (state_with t old.flights.items old.requests.items) (Some (record { number = number; line = line.Submit req node })))
-        (state_with t new.flights.items new.requests.items) old.notes.events new.notes.events
+    (state_with t new.flights.items new.requests.items) old.notes.events new.notes.events
 unfolding state_with
 submit_ran t number req node old new left numa sends order =
     let asked : List Asked = map asked_of old.requests.items in
@@ -92,10 +92,10 @@ submit_ran t number req node old new left numa sends order =
     let p = sends.path in
     let step = turn_step (inputs_of t) 0 (state_with t old.flights.items old.requests.items) (Some (record { number = number; line = line.Submit req node })) in
     let after : with_lane (opening (inputs_of t)) (old.flights.items ++ flight_to p req ∷ []) (asked ++ record { req = req; node = node; tries = flying (flight_to p req) ∷ [] } ∷ []) ≡ state_with t new.flights.items new.requests.items =
-        rw (sends.flights, sends.requests) refl in
+    rw (sends.flights, sends.requests) refl in
     runs_of step (state_with t new.flights.items new.requests.items) old.notes.events new.notes.events (At number said.Submit ∷ Try req 1 (Sent p.slot p.row.version) ∷ [])
     (submit_turn (inputs_of t) (opening (inputs_of t)) old.flights.items asked number req node p numa sends.choice fresh
-        ∙ ap (λ (s : State). tells s (At number said.Submit ∷ Try req 1 (Sent p.slot p.row.version) ∷ [])) after)
+    ∙ ap (λ (s : State). tells s (At number said.Submit ∷ Try req 1 (Sent p.slot p.row.version) ∷ [])) after)
     sends.noted
 
 pub submit_order : (t : Topology) (number req node : ℕ) (old new : Lane) (left : List ℕ) → Sends t number req node old new
@@ -140,7 +140,7 @@ pub record Lands (number : ℕ) (old new : Lane) : Type 0 where
 
 pub finish_ran : (t : Topology) (number : ℕ) (old new : Lane) (left : List ℕ) → InOrder old.landed old.flights.items old.requests.items left → Lands number old new
     → Runs (turn_step (inputs_of t) 0 (state_with t old.flights.items old.requests.items) (Some (record { number = number; line = line.FinishAll })))
-        (state_with t new.flights.items new.requests.items) old.notes.events new.notes.events
+    (state_with t new.flights.items new.requests.items) old.notes.events new.notes.events
 unfolding state_with
 finish_ran t number old new left order lands =
     let s = opening (inputs_of t) in
@@ -149,16 +149,16 @@ finish_ran t number old new left order lands =
     let rest : List Asked = drop old.landed (map asked_of old.requests.items) in
     let gained : List Event = At number (said.Finish (length old.flights.items)) ∷ map fin_of old.flights.items in
     let after : with_lane s [] (done ++ landed_all old.flights.items rest) ≡ state_with t new.flights.items new.requests.items =
-        rw (lands.flights, lands.requests) refl in
+    rw (lands.flights, lands.requests) refl in
     runs_of (turn_step (inputs_of t) 0 (state_with t old.flights.items old.requests.items) turn) (state_with t new.flights.items new.requests.items) old.notes.events new.notes.events gained
     (ap (λ (rs : List Asked). turn_step (inputs_of t) 0 (with_lane s old.flights.items rs) turn) (sym (parts old))
-        ∙ finish_line (inputs_of t) s old.flights.items done rest number refl order.fly (distinct_parts old left order)
-        ∙ ap (λ (s2 : State). tells s2 gained) after)
+    ∙ finish_line (inputs_of t) s old.flights.items done rest number refl order.fly (distinct_parts old left order)
+    ∙ ap (λ (s2 : State). tells s2 gained) after)
     lands.noted
 
 pub end_ran : (t : Topology) (old new : Lane) (left : List ℕ) → InOrder old.landed old.flights.items old.requests.items left → Lands 0 old new
     → Runs (turn_step (inputs_of t) 0 (state_with t old.flights.items old.requests.items) None)
-        (state_with t new.flights.items new.requests.items) old.notes.events new.notes.events
+    (state_with t new.flights.items new.requests.items) old.notes.events new.notes.events
 unfolding state_with
 end_ran t old new left order lands =
     let s = opening (inputs_of t) in
@@ -166,11 +166,11 @@ end_ran t old new left order lands =
     let rest : List Asked = drop old.landed (map asked_of old.requests.items) in
     let gained : List Event = At 0 (said.Finish (length old.flights.items)) ∷ map fin_of old.flights.items in
     let after : with_lane s [] (done ++ landed_all old.flights.items rest) ≡ state_with t new.flights.items new.requests.items =
-        rw (lands.flights, lands.requests) refl in
+    rw (lands.flights, lands.requests) refl in
     runs_of (turn_step (inputs_of t) 0 (state_with t old.flights.items old.requests.items) None) (state_with t new.flights.items new.requests.items) old.notes.events new.notes.events gained
     (ap (λ (rs : List Asked). turn_step (inputs_of t) 0 (with_lane s old.flights.items rs) None) (sym (parts old))
-        ∙ finish_end (inputs_of t) s old.flights.items done rest refl order.fly (distinct_parts old left order)
-        ∙ ap (λ (s2 : State). tells s2 gained) after)
+    ∙ finish_end (inputs_of t) s old.flights.items done rest refl order.fly (distinct_parts old left order)
+    ∙ ap (λ (s2 : State). tells s2 gained) after)
     lands.noted
 
 pub finish_order : (number : ℕ) (old new : Lane) (left : List ℕ) → InOrder old.landed old.flights.items old.requests.items left → Lands number old new
@@ -181,9 +181,9 @@ finish_order number old new left order lands =
     let asked : List Asked = map asked_of new.requests.items in
     let end : new.landed ≡ length asked = rw length-map lands.landed in
     let numbers : map (λ a. a.req) asked ≡ map (λ a. a.req) (map asked_of old.requests.items) =
-        ap (map (λ (a : Asked). a.req)) lands.requests ∙ map-append (λ (a : Asked). a.req) done (landed_all old.flights.items rest)
-        ∙ ap (λ (ns : List ℕ). map (λ (a : Asked). a.req) done ++ ns) (reqs_landed old.flights.items rest order.fly)
-        ∙ sym (map-append (λ (a : Asked). a.req) done rest) ∙ ap (map (λ (a : Asked). a.req)) (parts old) in
+    ap (map (λ (a : Asked). a.req)) lands.requests ∙ map-append (λ (a : Asked). a.req) done (landed_all old.flights.items rest)
+    ∙ ap (λ (ns : List ℕ). map (λ (a : Asked). a.req) done ++ ns) (reqs_landed old.flights.items rest order.fly)
+    ∙ sym (map-append (λ (a : Asked). a.req) done rest) ∙ ap (map (λ (a : Asked). a.req)) (parts old) in
     record {
       within = omega (arith, lands.landed);
       fly = rw (lands.flights, end, drop-length asked) tt;

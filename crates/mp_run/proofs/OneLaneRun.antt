@@ -98,13 +98,13 @@ plain_parts : (t : Topology) (plan : LanePlan) (ts : List Taken) (last : Stepped
     → plan.keeper ≡ false → flat_map (λ (x : Taken). x.step.rows) ts ≡ [] → flat_map (λ (x : Taken). x.step.orders) ts ≡ [] → last.rows ≡ [] → last.orders ≡ []
     → events_in ts 0 ≡ events → last.events ≡ At 0 (said.Requeue 0) ∷ [] → last.state.requests ≡ requests
     → run_of (inputs_of t) (plan ∷ []) ts last ≡ record {
-        keeper = None;
-        rows = map alone (map opening_entry (enumerate_from 0 (opening_rows (inputs_of t))));
-        keeping = first_entry (opening (inputs_of t)).order ∷ [];
-        lanes = events ∷ [];
-        drain = At 0 (said.Requeue 0) ∷ [];
-        requests = by_number requests;
-      }
+      keeper = None;
+      rows = map alone (map opening_entry (enumerate_from 0 (opening_rows (inputs_of t))));
+      keeping = first_entry (opening (inputs_of t)).order ∷ [];
+      lanes = events ∷ [];
+      drain = At 0 (said.Requeue 0) ∷ [];
+      requests = by_number requests;
+    }
 plain_parts t plan ts last events requests plain rows orders last_rows last_orders all drained asked =
     rw (plain, rows, orders, last_rows, last_orders, all, drained, asked) refl
 
@@ -120,23 +120,23 @@ run_one t plan flights requests events run plain on parts =
     let last : Stepped = drain i (state_after (opening i) ts) in
     let same : drain i now ≡ last = ap (drain i) on.state in
     let all : events_in ts 0 ≡ events =
-        ap (flat_map (λ (x : Taken). x.step.events)) (only_first i (opening i) plan.lines) ∙ sym on.noted ∙ append-nil events in
+    ap (flat_map (λ (x : Taken). x.step.events)) (only_first i (opening i) plan.lines) ∙ sym on.noted ∙ append-nil events in
     let whole = plain_parts t plan ts last events (map asked_of requests) plain (sym on.rows) (sym on.orders)
-        (ap (λ (x : Stepped). x.rows) (sym same) ∙ drain_rows t flights requests)
-        (ap (λ (x : Stepped). x.orders) (sym same) ∙ drain_orders t flights requests)
-        all
-        (ap (λ (x : Stepped). x.events) (sym same) ∙ drain_events t flights requests)
-        (ap (λ (x : Stepped). x.state.requests) (sym same) ∙ drain_requests t flights requests) in
+    (ap (λ (x : Stepped). x.rows) (sym same) ∙ drain_rows t flights requests)
+    (ap (λ (x : Stepped). x.orders) (sym same) ∙ drain_orders t flights requests)
+    all
+    (ap (λ (x : Stepped). x.events) (sym same) ∙ drain_events t flights requests)
+    (ap (λ (x : Stepped). x.state.requests) (sym same) ∙ drain_requests t flights requests) in
     let turns : run_of i (plan ∷ []) ts last ≡ plain_run i (plan ∷ []) =
-        ap (λ (xs : List Turn). run_of i (plan ∷ []) (taken i (opening i) xs) (drain i (state_after (opening i) (taken i (opening i) xs)))) (sym (turns_one plan)) in
+    ap (λ (xs : List Turn). run_of i (plan ∷ []) (taken i (opening i) xs) (drain i (state_after (opening i) (taken i (opening i) xs)))) (sym (turns_one plan)) in
     let view : view_of run ≡ record {
-        keeper = None;
-        rows = map alone (map opening_entry (enumerate_from 0 (opening_rows i)));
-        keeping = first_entry (opening i).order ∷ [];
-        lanes = events ∷ [];
-        drain = At 0 (said.Requeue 0) ∷ [];
-        requests = by_number (map asked_of requests);
-      } = rw (parts.keeper, parts.rows, parts.keeping, parts.lanes_events, parts.drain, parts.requests_told) refl in
+      keeper = None;
+      rows = map alone (map opening_entry (enumerate_from 0 (opening_rows i)));
+      keeping = first_entry (opening i).order ∷ [];
+      lanes = events ∷ [];
+      drain = At 0 (said.Requeue 0) ∷ [];
+      requests = by_number (map asked_of requests);
+    } = rw (parts.keeper, parts.rows, parts.keeping, parts.lanes_events, parts.drain, parts.requests_told) refl in
     view ∙ sym whole ∙ turns
 
 -- a list of one item

@@ -68,7 +68,7 @@ reading_is t rows topology built is =
     let len : length (range_with_len 0 n) ≡ n = length-range_with_len 0 n in
     let long : 8 ≤ length all = omega (arith, rows-length i) in
     let read : map table.path_of (take (length (range_with_len 0 n)) (zip (slots_upto n) rows)) ≡ map (path_in all) (range_with_len 0 n) =
-        rw (len, is) (paths_upto all n topology.opening_most long) in
+    rw (len, is) (paths_upto all n topology.opening_most long) in
     let listed : take (length (range_with_len 0 n)) (slots_upto n) ≡ range_with_len 0 n = rw len (listed_upto n topology.opening_most) in
     let some = some-length t.opening built.opening in
     record {

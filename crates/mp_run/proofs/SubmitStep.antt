@@ -44,7 +44,7 @@ lasts_numa s node slot numa = rw numa refl
 -- what it leaves
 tried_sent : (s : State) (flights : List Flight) (requests : List Asked) (req node : ℕ) (p : Path) → s.order.policy ≡ Numa → has_req req requests ≡ false
     → tried 0 (with_lane s flights (requests ++ record { req = req; node = node; tries = [] } ∷ [])) (record { req = req; node = node; tries = [] }) (Sent p.slot p.row.version)
-        ≡ tells (with_lane s (flights ++ flight_to p req ∷ []) (requests ++ record { req = req; node = node; tries = open_try p ∷ [] } ∷ [])) (Try req 1 (Sent p.slot p.row.version) ∷ [])
+    ≡ tells (with_lane s (flights ++ flight_to p req ∷ []) (requests ++ record { req = req; node = node; tries = open_try p ∷ [] } ∷ [])) (Try req 1 (Sent p.slot p.row.version) ∷ [])
 tried_sent s flights requests req node p numa fresh =
     let a : Asked = record { req = req; node = node; tries = [] } in
     let made : State = with_lane s (flights ++ flight_to p req ∷ []) requests in
@@ -54,11 +54,11 @@ tried_sent s flights requests req node p numa fresh =
 pub submit_turn : (i : Inputs) (s : State) (flights : List Flight) (requests : List Asked) (number req node : ℕ) (p : Path)
     → s.order.policy ≡ Numa → numa_choice i.topology.near node (paths_of s) ≡ Some p → has_req req requests ≡ false
     → turn_step i 0 (with_lane s flights requests) (Some (record { number = number; line = line.Submit req node }))
-        ≡ tells (with_lane s (flights ++ flight_to p req ∷ []) (requests ++ record { req = req; node = node; tries = open_try p ∷ [] } ∷ []))
-            (At number said.Submit ∷ Try req 1 (Sent p.slot p.row.version) ∷ [])
+    ≡ tells (with_lane s (flights ++ flight_to p req ∷ []) (requests ++ record { req = req; node = node; tries = open_try p ∷ [] } ∷ []))
+    (At number said.Submit ∷ Try req 1 (Sent p.slot p.row.version) ∷ [])
 submit_turn i s flights requests number req node p numa choice fresh =
     let a : Asked = record { req = req; node = node; tries = [] } in
     let s1 : State = with_lane s flights (requests ++ a ∷ []) in
     let sent : submitted i.topology.near 0 s1 req ≡ tells (with_lane s (flights ++ flight_to p req ∷ []) (requests ++ record a { tries = open_try p ∷ [] } ∷ [])) (Try req 1 (Sent p.slot p.row.version) ∷ []) =
-        submitted_sent i.topology.near s1 a p (request_last s flights requests a fresh) numa choice ∙ tried_sent s flights requests req node p numa fresh in
+    submitted_sent i.topology.near s1 a p (request_last s flights requests a fresh) numa choice ∙ tried_sent s flights requests req node p numa fresh in
     ap (λ (step : Stepped). joined (tells s1 (At number said.Submit ∷ [])) (joined step (tells step.state []))) sent

@@ -51,7 +51,13 @@ fn blank_note(reading: &Reading) -> Note {
 }
 
 /// A request that is sent to a slot at once.
-fn sent_request(alloc: Global, req: ReqId, node: Node, slot: Slot, note: Note) -> Result<Request, RunError>
+fn sent_request(
+    alloc: Global,
+    req: ReqId,
+    node: Node,
+    slot: Slot,
+    note: Note,
+) -> Result<Request, RunError>
     ensures { IfOk result (λ r. asked_of r ≡ sent_to req node slot) }
 {
     let mut request = Request::make(alloc, req, node);

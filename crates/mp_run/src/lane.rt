@@ -43,7 +43,12 @@ fn land_at(requests: &mut Vec<Request>, at: usize, flight: &Flight)
 }
 
 /// Ends all flights with status 0, and notes it.
-pub fn land_all(notes: &mut LaneNotes, requests: &mut Vec<Request>, flights: &[Flight], landed: usize)
+pub fn land_all(
+    notes: &mut LaneNotes,
+    requests: &mut Vec<Request>,
+    flights: &[Flight],
+    landed: usize,
+)
     requires room { length flights.now ≤ notes.old.spare }
     requires within { landed ≤ vec_len requests.old }
     requires fly { Fly flights.now (drop landed (map asked_of requests.old.items)) }

@@ -10,7 +10,7 @@ ghost use Rattle.mp_run.specs.Engine.{IsSimple, submit_of, submits_of};
 ghost use Rattle.mp_run.specs.Held.{held_lines, IsHeld, IsFresh};
 ghost use Rattle.mp_run.specs.ScriptText as text;
 
-use crate::script::{Line, LanePlan, Numbered1, Script};
+use crate::script::{LanePlan, Line, Numbered1, Script};
 use crate::status::ScriptError;
 use mp_checks::marks::{is_marked, mark, table};
 use mp_words::numbers::{Node, ReqId};
@@ -35,8 +35,7 @@ fn is_space(byte: u8) -> bool
 fn is_plain(line: &[u8]) -> bool
     ensures { result ≡ text.is_plain line.now }
 {
-    line.iter()
-        .all(|byte| (32 <= *byte && *byte <= 126) || *byte == 9 || *byte == 13)
+    line.iter().all(|byte| (32 <= *byte && *byte <= 126) || *byte == 9 || *byte == 13)
 }
 
 /// The parts of a line between its spaces.
@@ -336,13 +335,7 @@ fn without_last_end(bytes: &[u8]) -> &[u8]
     ensures { result.now ≡ text.without_last_end bytes.now }
 {
     match bytes {
-        [front @ .., last] => {
-            if *last == b'\n' {
-                front
-            } else {
-                bytes
-            }
-        }
+        [front @ .., last] => { if *last == b'\n' { front } else { bytes } }
         [] => bytes,
     }
 }

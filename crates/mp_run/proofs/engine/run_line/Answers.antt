@@ -18,9 +18,9 @@ returns-in-Submit-clause-ran c =
     let lines = c.args.lines.now in
     let rest : List ℕ = submits_of (drop (c.args.place + 1) lines) in
     let turn : slice_get lines c.args.place ≡ Some (record { number = n.number; line = line.Submit c.in-Submit.req c.in-Submit.node }) =
-        slice_get_at lines c.args.place n c.requires.there c.index-lines-place.is ∙ ap (λ (l : Line). Some (record { number = n.number; line = l })) c.in-Submit.is in
+    slice_get_at lines c.args.place n c.requires.there c.index-lines-place.is ∙ ap (λ (l : Line). Some (record { number = n.number; line = l })) c.in-Submit.is in
     let left : submits_of (drop c.args.place lines) ≡ c.in-Submit.req ∷ rest =
-        submits_at lines c.args.place n c.requires.there c.index-lines-place.is ∙ ap (λ (l : Line). submit_of l ++ rest) c.in-Submit.is in
+    submits_at lines c.args.place n c.requires.there c.index-lines-place.is ∙ ap (λ (l : Line). submit_of l ++ rest) c.in-Submit.is in
     let order = rw left at c.requires.order in
     rw turn (on_ok c.submit.result (λ sends. submit_ran c.args.topology.now n.number c.in-Submit.req c.in-Submit.node c.args.lane.now c.submit.new.lane rest c.requires.reading.numa sends order) c.submit.ensures)
 
@@ -30,7 +30,7 @@ returns-in-Submit-clause-order c =
     let lines = c.args.lines.now in
     let rest : List ℕ = submits_of (drop (c.args.place + 1) lines) in
     let left : submits_of (drop c.args.place lines) ≡ c.in-Submit.req ∷ rest =
-        submits_at lines c.args.place n c.requires.there c.index-lines-place.is ∙ ap (λ (l : Line). submit_of l ++ rest) c.in-Submit.is in
+    submits_at lines c.args.place n c.requires.there c.index-lines-place.is ∙ ap (λ (l : Line). submit_of l ++ rest) c.in-Submit.is in
     let order = rw left at c.requires.order in
     on_ok c.submit.result (λ sends. submit_order c.args.topology.now n.number c.in-Submit.req c.in-Submit.node c.args.lane.now c.submit.new.lane rest sends order) c.submit.ensures
 
@@ -39,7 +39,7 @@ returns-in-FinishAll-clause-ran c =
     let n = c.index-lines-place.result in
     let lines = c.args.lines.now in
     let turn : slice_get lines c.args.place ≡ Some (record { number = n.number; line = line.FinishAll }) =
-        slice_get_at lines c.args.place n c.requires.there c.index-lines-place.is ∙ ap (λ (l : Line). Some (record { number = n.number; line = l })) c.in-FinishAll.is in
+    slice_get_at lines c.args.place n c.requires.there c.index-lines-place.is ∙ ap (λ (l : Line). Some (record { number = n.number; line = l })) c.in-FinishAll.is in
     on_ok_all c.finish.result
     (λ noted flights requests landed. finish_turn c.args.topology.now n.number c.args.lane.now c.finish.new.lane (submits_of (drop c.args.place lines)) (slice_get lines c.args.place) turn c.requires.order (record { noted = noted; flights = flights; requests = requests; landed = omega (arith, landed) }))
     c.finish.ensures.noted c.finish.ensures.flights c.finish.ensures.requests c.finish.ensures.landed
@@ -49,7 +49,7 @@ returns-in-FinishAll-clause-order c =
     let n = c.index-lines-place.result in
     let lines = c.args.lines.now in
     let left : submits_of (drop c.args.place lines) ≡ submits_of (drop (c.args.place + 1) lines) =
-        submits_at lines c.args.place n c.requires.there c.index-lines-place.is ∙ ap (λ (l : Line). submit_of l ++ submits_of (drop (c.args.place + 1) lines)) c.in-FinishAll.is in
+    submits_at lines c.args.place n c.requires.there c.index-lines-place.is ∙ ap (λ (l : Line). submit_of l ++ submits_of (drop (c.args.place + 1) lines)) c.in-FinishAll.is in
     let order = rw left at c.requires.order in
     on_ok_all c.finish.result
     (λ noted flights requests landed. finish_order n.number c.args.lane.now c.finish.new.lane (submits_of (drop (c.args.place + 1) lines)) order (record { noted = noted; flights = flights; requests = requests; landed = omega (arith, landed) }))

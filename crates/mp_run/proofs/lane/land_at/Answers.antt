@@ -9,6 +9,6 @@ returns-clause-landed c =
     let items = c.args.requests.now.items in
     let old = c.index_mut-request.result.now in
     let was : get_or (map asked_of items) c.args.at nobody ≡ asked_of old =
-        get_or-map asked_of items c.args.at old nobody (omega arith) ∙ ap asked_of (sym c.index_mut-request.ensures.value) in
+    get_or-map asked_of items c.args.at old nobody (omega arith) ∙ ap asked_of (sym c.index_mut-request.ensures.value) in
     map-set asked_of items c.args.at c.land_one.new.request
     ∙ ap (set (map asked_of items) c.args.at) (c.land_one.ensures ∙ ap (λ (a : Asked). record a { tries = flown c.args.flight.now ∷ [] }) (sym was))
