@@ -1,6 +1,7 @@
 //! Runs a script on one thread, and the top call.
 #![tactic(auto)]
 
+pub mod cases;
 pub mod class;
 mod engine;
 pub mod error;
