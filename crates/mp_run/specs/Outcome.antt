@@ -1,5 +1,5 @@
 -- What the top call answers, where the files are told.
-use Rattle.std.specs.Prelude.{◌≡◌, ℕ, ◌<◌, List, [], ◌∷◌, Bool, false, Option, Some, None, Result, Ok, Err, nat_le, ◌==◌, length, codes, if◌then◌else◌}
+use Rattle.std.specs.Prelude.{◌≡◌, ℕ, ◌<◌, ◌≤◌, List, [], ◌∷◌, Bool, false, Option, Some, None, Result, Ok, Err, nat_le, ◌==◌, length, codes, if◌then◌else◌}
 use Rattle.std.specs.Str.{bytes_eq}
 use Rattle.std.specs.Io.KnownBytes.{Appends}
 use Rattle.mp_io.specs.Files.{Files, file_at}
@@ -87,9 +87,9 @@ outcome files words = for_names files (names_in words)
 abbrev pub IsRead : Files → ℕ → List ℕ → Type 0
 IsRead files i name = (bytes : List ℕ) × (read_of files i name ≡ Ok bytes)
 
--- the files before the one with number i were read
+-- there is a file with number i, and the files before it were read
 abbrev pub AreReadBefore : Files → Names → ℕ → Type 0
-AreReadBefore files names i = (1 < i → IsRead files 1 names.topology) × (2 < i → IsRead files 2 names.boxes) × (i < 4)
+AreReadBefore files names i = (1 ≤ i) × (1 < i → IsRead files 1 names.topology) × (2 < i → IsRead files 2 names.boxes) × (i < 4)
 
 -- for words of the form
 abbrev pub BeforeFault : Files → Option Names → ℕ → Type 0
