@@ -1,6 +1,6 @@
 //! A request with its tries.
 
-ghost use Rattle.std.specs.Prelude.{◌≡◌, ◌≤◌, ◌+◌, ◌++◌, ◌∷◌, [], OnOk, Some, None, length, map, take, vec_len, vec_capacity};
+ghost use Rattle.std.specs.Prelude.{◌≡◌, ◌≤◌, ◌+◌, ◌++◌, ◌∷◌, [], OnOk, OnErr, Some, None, length, map, take, vec_len, vec_capacity};
 ghost use Rattle.std.specs.List.{last_or};
 ghost use Rattle.mp_words.specs.Request.{outcome_of, attempts_of, tried_of, asked_of, ended_tries, done_with};
 
@@ -64,10 +64,12 @@ impl Request {
     ///
     /// # Errors
     ///
-    /// `NoMemory` where memory runs out, and always where the request has 67,108,864 tries. The request is as it
-    /// was but for its room.
+    /// `NoMemory` where memory runs out, and never where there was room; always where the request has 67,108,864
+    /// tries. The request is as it was but for its room.
     pub fn reserve(&mut self) -> Result<(), SubmitError>
         ensures room { OnOk result (1 ≤ self.new.spare) }
+        ensures kept { self.old.spare ≤ self.new.spare }
+        ensures cause { OnErr result (self.old.spare ≡ 0) }
         ensures id { self.new.id ≡ self.old.id }
         ensures node { self.new.node ≡ self.old.node }
         ensures tries { self.new.tries ≡ self.old.tries }
