@@ -1,8 +1,9 @@
-//! The program: runs a script of NVMe paths and prints what came of it.
+//! The program: runs a script of NVMe paths, or reads their log pages, and prints what came of it.
 #![tactic(auto)]
 
 use mp_io::host::{HostFolder, HostOut};
-use mp_run::status::{BoxError, ScriptError, Status};
+use mp_page::BoxError;
+use mp_run::status::{ScriptError, Status};
 use mp_run::top::top_plain;
 use mp_topology::errors::{Place, TopologyError};
 use std::alloc::{AllocError, Global};
@@ -40,6 +41,16 @@ fn script_line(alloc: Global, error: ScriptError) -> Result<String, AllocError> 
     }
 }
 
+/// What is said of refused boxes.
+fn boxes_line(alloc: Global, error: BoxError) -> Result<String, AllocError> {
+    match error {
+        BoxError::TooMany => String::from_str(alloc, "boxes refused TooMany"),
+        BoxError::ShortBox(offset) => format!(in alloc; "boxes refused ShortBox {offset}"),
+        BoxError::LongBox(offset) => format!(in alloc; "boxes refused LongBox {offset}"),
+        BoxError::NoMemory => String::from_str(alloc, "out of memory"),
+    }
+}
+
 /// What is said of a status other than `Ok`.
 fn fault_line(alloc: Global, status: Status) -> Result<String, AllocError> {
     match status {
@@ -50,9 +61,7 @@ fn fault_line(alloc: Global, status: Status) -> Result<String, AllocError> {
         Status::WriteFault => String::from_str(alloc, "write fault"),
         Status::Topology(error) => topology_line(alloc, error),
         Status::Script(error) => script_line(alloc, error),
-        Status::Boxes(BoxError::NotBuilt(length)) => {
-            format!(in alloc; "boxes refused NotBuilt {length}")
-        }
+        Status::Boxes(error) => boxes_line(alloc, error),
         Status::TooLong(file) => format!(in alloc; "file {file} is too long"),
     }
 }

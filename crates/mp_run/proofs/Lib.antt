@@ -10,6 +10,9 @@ pub mod OpeningSlots
 pub mod Placed
 pub mod OpeningReading
 pub mod OneLaneRun
+pub mod Pages
 pub mod Scripts
 pub mod HeldLines
 pub mod Outcomes
+pub mod TopLaws
+pub mod Accepting

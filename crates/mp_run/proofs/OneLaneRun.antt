@@ -23,7 +23,7 @@ use Rattle.mp_run.specs.declared.script.Numbered1.{Numbered1}
 use Rattle.mp_run.specs.PlainState.{State}
 use Rattle.mp_run.specs.PlainCall.{Inputs}
 use Rattle.mp_run.specs.PlainLine.{turn_step}
-use Rattle.mp_run.specs.PlainRun.{Taken, taken, state_after, events_in, rows_in, run_of, by_number, plain_run, run_over}
+use Rattle.mp_run.specs.PlainRun.{Taken, taken, state_after, events_in, rows_in, run_of, by_number, plain_run, run_alone}
 use Rattle.mp_run.specs.Opening.{opening, opening_rows, opening_entry, first_order}
 use Rattle.mp_run.specs.Stepped.{Stepped}
 use Rattle.mp_run.specs.Turns.{Turn, turns_of, round_of, turn_in, line_turn, longest}
@@ -111,8 +111,8 @@ plain_parts t plan ts last events requests plain rows orders last_rows last_orde
 -- the run of one lane
 pub run_one : (t : Topology) (plan : LanePlan) (flights : List Flight) (requests : List RequestView) (events : List Event) (run : Run)
     → plan.keeper ≡ false → IsOn t (turns_with plan.lines) [] (state_with t flights requests) events
-    → IsGathered t (events ∷ []) (map asked_of requests) run → view_of run ≡ run_over t (plan ∷ [])
-unfolding run_over
+    → IsGathered t (events ∷ []) (map asked_of requests) run → view_of run ≡ run_alone t (plan ∷ [])
+unfolding run_alone
 run_one t plan flights requests events run plain on parts =
     let i : Inputs = inputs_of t in
     let ts : List Taken = taken i (opening i) (turns_with plan.lines) in

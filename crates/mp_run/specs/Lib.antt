@@ -21,11 +21,16 @@ pub mod Ready
 pub mod OpeningSlots
 pub mod Gathered
 pub mod Built
+pub mod Digits
 pub mod ScriptText
 pub mod Held
 pub mod Status
+pub mod Forms
+pub mod FormsView
+pub mod Help
 pub mod Outcome
-pub mod NamesView
+pub mod TooLong
+pub mod Accepted
 pub mod CaseParts
 pub mod CaseAllFifteenSlots
 pub mod CaseChangeArmsAndTimerExpires

@@ -7,14 +7,18 @@ use Rattle.mp_io.specs.Taken.{AppendsFront}
 use Rattle.mp_topology.specs.declared.topology.Topology.{Topology}
 use Rattle.mp_topology.specs.declared.errors.TopologyError.{TopologyError}
 use Rattle.mp_topology.specs.Topology.{topology_in}
+use Rattle.mp_page.specs.declared.boxes.BoxError.{BoxError}
+use Rattle.mp_page.specs.Boxes.{boxes_in}
+use Rattle.mp_page.specs.Text.{pages_text}
 use Rattle.mp_record.specs.RunView.{noted}
 use Rattle.mp_record.specs.RunText.{run_text}
-use Rattle.mp_run.specs.declared.script.LanePlan.{LanePlan}
 use Rattle.mp_run.specs.declared.script.Script.{Script}
+use Rattle.mp_run.specs.declared.script.World.{World}
 use Rattle.mp_run.specs.declared.status.Status.{Status}
 use Rattle.mp_run.specs.declared.status.Status.TheVariants as end
 use Rattle.mp_run.specs.declared.status.ScriptError.{ScriptError}
-use Rattle.mp_run.specs.declared.status.BoxError.TheVariants as boxes
+use Rattle.mp_run.specs.Forms.{Names, Form, serial, pages, help, version, form_of}
+use Rattle.mp_run.specs.Help.{help_text, version_text}
 use Rattle.mp_run.specs.ScriptText.{script_in}
 use Rattle.mp_run.specs.PlainRun.{run_over}
 
@@ -22,17 +26,6 @@ infixl 10 ◌>>=◌
 abbrev pub ◌>>=◌ : {A B : Type 0} → Result A Status → (A → Result B Status) → Result B Status
 (Ok x) >>= f = f x
 (Err e) >>= f = Err e
-
--- the names of the topology, the boxes and the script
-pub record Names : Type 0 where
-  pub topology : List ℕ
-  pub boxes : List ℕ
-  pub script : List ℕ
-
--- the names in the words `serial T P S`
-abbrev pub names_in : List (List ℕ) → Option Names
-names_in (form ∷ t ∷ p ∷ s ∷ []) = if bytes_eq form (codes "serial") then Some (record { topology = t; boxes = p; script = s }) else None
-names_in _ = None
 
 -- a file that was found; one that is longer than a file may be is refused
 abbrev pub read_found : ℕ → Option (List ℕ) → Result (List ℕ) Status
@@ -47,54 +40,83 @@ abbrev pub topology_or : Result Topology TopologyError → Result Topology Statu
 topology_or (Ok t) = Ok t
 topology_or (Err e) = Err (end.Topology e)
 
--- the boxes, of which none can be read yet
-abbrev pub boxes_or : List ℕ → Result (Unit {0}) Status
-boxes_or bytes = if length bytes == 0 then Ok tt else Err (end.Boxes (boxes.NotBuilt (length bytes)))
+abbrev pub boxes_or : Result (List (List ℕ)) BoxError → Result (List (List ℕ)) Status
+boxes_or (Ok boxes) = Ok boxes
+boxes_or (Err e) = Err (end.Boxes e)
 
 abbrev pub script_or : Result Script ScriptError → Result Script Status
 script_or (Ok s) = Ok s
 script_or (Err e) = Err (end.Script e)
 
--- the text of the plain run of these lanes, without sections and closings
-unfoldable pub serial_text : Topology → List LanePlan → List ℕ
-serial_text t lanes = run_text t (noted false (run_over t lanes))
+-- the text of the plain run of a script, without sections and closings
+unfoldable pub serial_text : World → Script → List ℕ
+serial_text world script = run_text world.topology (noted false (run_over world script))
 
--- the text for the bytes of the three files, or the first refusal
-unfoldable pub text_for : List ℕ → List ℕ → List ℕ → Result (List ℕ) Status
-text_for t p s = do
+-- the text of a run for the bytes of the three files, or the first refusal
+unfoldable pub serial_for : List ℕ → List ℕ → List ℕ → Result (List ℕ) Status
+serial_for t p s = do
   topology ← topology_or (topology_in t)
-  _ ← boxes_or p
+  boxes ← boxes_or (boxes_in p)
   script ← script_or (script_in topology.near.nodes s)
-  Ok (serial_text topology script.lanes)
+  Ok (serial_text (record { topology = topology; pages = boxes }) script)
 
--- the text for the three files, or the first refusal
-unfoldable pub text_in : Files → Names → Result (List ℕ) Status
-text_in files names = do
+-- the text of a run of the three files, or the first refusal
+unfoldable pub serial_in : Files → Names → Result (List ℕ) Status
+serial_in files names = do
   t ← read_of files 1 names.topology
   p ← read_of files 2 names.boxes
   s ← read_of files 3 names.script
-  text_for t p s
+  serial_for t p s
 
-abbrev pub for_names : Files → Option Names → Result (List ℕ) Status
-for_names files None = Err end.Usage
-for_names files (Some names) = text_in files names
+-- the text of the pages in the bytes of a file of boxes, or the refusal
+unfoldable pub pages_for : List ℕ → ℕ → Result (List ℕ) Status
+pages_for p max = do
+  boxes ← boxes_or (boxes_in p)
+  Ok (pages_text max boxes)
+
+-- the text of the pages of a file of boxes, or the first refusal
+unfoldable pub pages_in : Files → List ℕ → ℕ → Result (List ℕ) Status
+pages_in files name max = do
+  p ← read_of files 1 name
+  pages_for p max
+
+-- the text that a form asks for, or the first refusal
+abbrev pub text_in : Files → Form → Result (List ℕ) Status
+text_in files (serial names) = serial_in files names
+text_in files (pages name max) = pages_in files name max
+text_in files help = Ok help_text
+text_in files version = Ok version_text
+
+-- what the program says of itself, for a form that asks for it
+abbrev pub own_text : Option Form → Option (List ℕ)
+own_text (Some help) = Some help_text
+own_text (Some version) = Some version_text
+own_text _ = None
+
+-- the text for a form, and wrong usage without one
+abbrev pub for_form : Files → Option Form → Result (List ℕ) Status
+for_form files None = Err end.Usage
+for_form files (Some form) = text_in files form
 
 -- the text for the words, or the first refusal
 abbrev pub outcome : Files → List (List ℕ) → Result (List ℕ) Status
-outcome files words = for_names files (names_in words)
+outcome files words = for_form files (form_of words)
 
 -- the file was found, and is no longer than a file may be
 abbrev pub IsRead : Files → ℕ → List ℕ → Type 0
 IsRead files i name = (bytes : List ℕ) × (read_of files i name ≡ Ok bytes)
 
--- there is a file with number i, and the files before it were read
-abbrev pub AreReadBefore : Files → Names → ℕ → Type 0
-AreReadBefore files names i = (1 ≤ i) × (1 < i → IsRead files 1 names.topology) × (2 < i → IsRead files 2 names.boxes) × (i < 4)
+-- there is a file with number i of the form, and the files before it were read
+abbrev pub AreReadBefore : Files → Form → ℕ → Type 0
+AreReadBefore files (serial names) i = (1 ≤ i) × (1 < i → IsRead files 1 names.topology) × (2 < i → IsRead files 2 names.boxes) × (i < 4)
+AreReadBefore files (pages name max) i = i ≡ 1
+AreReadBefore files help i = ⊥
+AreReadBefore files version i = ⊥
 
--- for words of the form
-abbrev pub BeforeFault : Files → Option Names → ℕ → Type 0
+-- for words of a form
+abbrev pub BeforeFault : Files → Option Form → ℕ → Type 0
 BeforeFault files None i = ⊥
-BeforeFault files (Some names) i = AreReadBefore files names i
+BeforeFault files (Some form) i = AreReadBefore files form i
 
 -- A status that may stand for a refusal: where it isn't want of memory or a fault, it is the first refusal.
 abbrev pub Refuses : {T : Type 0} → Status → Result T Status → Type 0

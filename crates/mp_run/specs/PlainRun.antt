@@ -7,13 +7,16 @@ use Rattle.mp_words.specs.declared.entry.RowEntry.{RowEntry}
 use Rattle.mp_words.specs.declared.entry.KeepEntry.{KeepEntry}
 use Rattle.mp_words.specs.declared.entry.KeepEntry.TheVariants as keep
 use Rattle.mp_record.specs.declared.event.Event.{Event}
+use Rattle.mp_page.specs.Page.{page_in}
 use Rattle.mp_run.specs.declared.script.LanePlan.{LanePlan}
+use Rattle.mp_run.specs.declared.script.Script.{Script}
+use Rattle.mp_run.specs.declared.script.World.{World}
 use Rattle.mp_topology.specs.declared.topology.Topology.{Topology}
 use Rattle.mp_words.specs.Request.{Asked}
 use Rattle.mp_record.specs.RunView.{RunView}
 use Rattle.mp_run.specs.PlainState.{State}
 use Rattle.mp_run.specs.PlainLine.{turn_step}
-use Rattle.mp_run.specs.PlainCall.{Inputs}
+use Rattle.mp_run.specs.PlainCall.{Inputs, inputs_by}
 use Rattle.mp_run.specs.Stepped.{Stepped}
 use Rattle.mp_run.specs.Opening.{opening, opening_entry, first_order}
 use Rattle.mp_run.specs.Turns.{Turn, turns_of}
@@ -69,5 +72,9 @@ plain_run i lanes =
     run_of i lanes ts (drain i (state_after (opening i) ts))
 
 -- the run of a script's lanes over a topology alone, without pages and scripted statuses
-unfoldable pub run_over : Topology → List LanePlan → RunView
-run_over t lanes = plain_run (record { topology = t; pages = []; answers = [] }) lanes
+unfoldable pub run_alone : Topology → List LanePlan → RunView
+run_alone t lanes = plain_run (record { topology = t; pages = []; answers = [] }) lanes
+
+-- the run of a script over a world
+unfoldable pub run_over : World → Script → RunView
+run_over world script = plain_run (inputs_by page_in world script) script.lanes

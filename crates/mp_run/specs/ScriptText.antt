@@ -1,8 +1,9 @@
 -- What a script's text says, as far as the program can run it.
-use Rattle.std.specs.Prelude.{◌≡◌, ℕ, ◌+◌, ◌*◌, ◌-◌, List, [], ◌∷◌, ◌++◌, Bool, true, false, not, ◌&&◌, ◌||◌, ◌==◌, nat_le, nat_lt, Option, Some, None, Result, Ok, Err, codes, filter, fold, length, if◌then◌else◌, option_and_then}
+use Rattle.std.specs.Prelude.{◌≡◌, ℕ, ◌+◌, List, [], ◌∷◌, ◌++◌, Bool, true, false, not, ◌&&◌, ◌||◌, ◌==◌, nat_le, nat_lt, Option, Some, None, Result, Ok, Err, codes, filter, length, if◌then◌else◌, option_and_then}
 use Rattle.std.specs.List.{slice_split, list_all}
 use Rattle.std.specs.Str.{bytes_eq}
 use Rattle.mp_checks.specs.Marks.{has}
+use Rattle.mp_run.specs.Digits.{number_in}
 use Rattle.mp_run.specs.declared.script.Script.{Script}
 use Rattle.mp_run.specs.declared.script.LanePlan.{LanePlan}
 use Rattle.mp_run.specs.declared.script.Numbered1.{Numbered1}
@@ -36,18 +37,6 @@ without_last_end (b ∷ c ∷ bytes) = b ∷ without_last_end (c ∷ bytes)
 -- the lines of a text
 abbrev pub lines_in : List ℕ → List (List ℕ)
 lines_in bytes = slice_split is_line_end (without_last_end bytes)
-
--- each byte is a digit
-abbrev pub all_digits : List ℕ → Bool
-all_digits digits = list_all (λ b. nat_le 48 b && nat_le b 57) digits
-
--- the number of digits
-abbrev pub value_in : List ℕ → ℕ
-value_in digits = fold (λ n digit. n * 10 + (digit - 48)) 0 digits
-
--- one to ten digits
-abbrev pub number_in : List ℕ → Option ℕ
-number_in digits = if length digits == 0 then None else (if nat_lt 10 (length digits) then None else (if all_digits digits then Some (value_in digits) else None))
 
 infixl 10 ◌>>=◌
 abbrev pub ◌>>=◌ : {A B : Type 0} → Option A → (A → Option B) → Option B

@@ -6,7 +6,7 @@ ghost use Rattle.mp_record.specs.RunView.{view_of, events_of};
 ghost use Rattle.mp_words.specs.Request.{asked_of};
 ghost use Rattle.mp_run.specs.Gathered.{IsGathered};
 ghost use Rattle.mp_run.specs.OneLane.{inputs_of};
-ghost use Rattle.mp_run.specs.PlainRun.{run_over};
+ghost use Rattle.mp_run.specs.PlainRun.{run_alone, run_over};
 ghost use Rattle.mp_run.specs.Built.{IsScript, AreLanes, IsLane};
 ghost use Rattle.mp_run.specs.Opening as plain;
 ghost use Rattle.mp_run.specs.Ready.{IsReading};
@@ -16,7 +16,7 @@ use crate::error::RunError;
 use crate::gather::{histories, idle_drain, keeping, numbered};
 use crate::lane::Lane;
 use crate::opening::{opening_order, opening_reading, opening_rows};
-use crate::script::{LanePlan, Script};
+use crate::script::{LanePlan, Script, World};
 use mp_record::event::{Event, Said};
 use mp_record::notes::LaneNotes;
 use mp_record::run::Run;
@@ -52,11 +52,11 @@ fn gathered(
 }
 
 /// The run of no lane.
-#[tactic(auto, unfolding(crate::specs::PlainRun::run_over))]
+#[tactic(auto, unfolding(crate::specs::PlainRun::run_alone))]
 fn run_nothing(alloc: Global, topology: &Topology) -> Result<Run, RunError>
     requires topology { IsTopology topology.now }
     requires built { IsBuilt topology.now }
-    ensures { IfOk result (λ run. view_of run ≡ run_over topology.now []) }
+    ensures { IfOk result (λ run. view_of run ≡ run_alone topology.now []) }
 {
     let rows = opening_rows(alloc, topology)?;
     let order = opening_order(topology);
@@ -86,7 +86,7 @@ fn run_plan(alloc: Global, topology: &Topology, plan: &LanePlan) -> Result<Run, 
     requires topology { IsTopology topology.now }
     requires built { IsBuilt topology.now }
     requires lane { IsLane plan.now }
-    ensures { IfOk result (λ run. view_of run ≡ run_over topology.now (plan.now ∷ [])) }
+    ensures { IfOk result (λ run. view_of run ≡ run_alone topology.now (plan.now ∷ [])) }
 {
     let rows = opening_rows(alloc, topology)?;
     let order = opening_order(topology);
@@ -107,7 +107,7 @@ fn run_plans(alloc: Global, topology: &Topology, plans: &[LanePlan]) -> Result<R
     requires topology { IsTopology topology.now }
     requires built { IsBuilt topology.now }
     requires lanes { AreLanes plans.now }
-    ensures { IfOk result (λ run. view_of run ≡ run_over topology.now plans.now) }
+    ensures { IfOk result (λ run. view_of run ≡ run_alone topology.now plans.now) }
 {
     match plans {
         [] => run_nothing(alloc, topology),
@@ -116,12 +116,22 @@ fn run_plans(alloc: Global, topology: &Topology, plans: &[LanePlan]) -> Result<R
     }
 }
 
-/// The run of a script on one thread.
-pub fn run(alloc: Global, topology: &Topology, script: &Script) -> Result<Run, RunError>
+/// The run of a script that can be run so far, over a topology alone.
+fn run_script(alloc: Global, topology: &Topology, script: &Script) -> Result<Run, RunError>
     requires topology { IsTopology topology.now }
     requires built { IsBuilt topology.now }
     requires script { IsScript script.now }
-    ensures { IfOk result (λ run. view_of run ≡ run_over topology.now script.now.lanes) }
+    ensures { IfOk result (λ run. view_of run ≡ run_alone topology.now script.now.lanes) }
 {
     run_plans(alloc, topology, script.lanes.as_slice())
+}
+
+/// The run of a script on one thread.
+pub fn run(alloc: Global, world: &World, script: &Script) -> Result<Run, RunError>
+    requires topology { IsTopology world.now.topology }
+    requires built { IsBuilt world.now.topology }
+    requires script { IsScript script.now }
+    ensures { IfOk result (λ run. view_of run ≡ run_over world.now script.now) }
+{
+    run_script(alloc, &world.topology, script)
 }

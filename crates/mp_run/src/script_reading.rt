@@ -10,6 +10,7 @@ ghost use Rattle.mp_run.specs.Engine.{IsSimple, submit_of, submits_of};
 ghost use Rattle.mp_run.specs.Held.{held_lines, IsHeld, IsFresh};
 ghost use Rattle.mp_run.specs.ScriptText as text;
 
+use crate::digits::number;
 use crate::script::{LanePlan, Line, Numbered1, Script};
 use crate::status::ScriptError;
 use mp_checks::marks::{is_marked, mark, table};
@@ -64,45 +65,6 @@ fn pieces_of<'b>(alloc: Global, bytes: &'b [u8]) -> Result<Vec<&'b [u8]>, AllocE
     ensures { IfOk result (λ pieces. map (λ piece. piece.now) pieces.items ≡ slice_split text.is_line_end bytes.now) }
 {
     bytes.split(|byte| *byte == b'\n').collect(alloc)
-}
-
-/// Whether each byte is a digit.
-fn all_digits(digits: &[u8]) -> bool
-    ensures { result ≡ text.all_digits digits.now }
-{
-    digits.iter().all(|b| b'0' <= *b && *b <= b'9')
-}
-
-/// The number of digits.
-fn value_of(digits: &[u8]) -> u64
-    requires count { length digits.now ≤ 10 }
-    requires digits { text.all_digits digits.now ≡ true }
-    ensures { result ≡ text.value_in digits.now }
-{
-    let mut value = 0u64;
-    for digit in digits {
-        value = value * 10 + u64::from(*digit - b'0');
-    }
-    value
-}
-
-/// A number of one to ten digits.
-fn number(digits: &[u8]) -> Option<u64>
-    ensures { result ≡ text.number_in digits.now }
-{
-    let count = digits.len();
-    if count == 0 {
-        return None;
-    }
-    if count > 10 {
-        return None;
-    }
-    let are_digits = all_digits(digits);
-    if are_digits {
-        Some(value_of(digits))
-    } else {
-        None
-    }
 }
 
 /// The request and the node of a submit, where both are in range.

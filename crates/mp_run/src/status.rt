@@ -1,5 +1,6 @@
 //! How a call of the program ends.
 
+use mp_page::BoxError;
 use mp_topology::errors::TopologyError;
 use thiserror::Error;
 
@@ -10,13 +11,6 @@ pub enum ScriptError {
     NotBuilt(u32),
     #[error("out of memory")]
     NoMemory,
-}
-
-/// Why boxes aren't read.
-#[derive(Clone, Copy, Debug, Error)]
-pub enum BoxError {
-    #[error("a file of {0} bytes has boxes, which can't be read yet")]
-    NotBuilt(u32),
 }
 
 /// How a call of the program ends.

@@ -1,6 +1,19 @@
-use Rattle.std.proofs.Common.{ap, Err}
+use Rattle.std.proofs.Common.{map, string_bytes}
+use Rattle.mp_run.specs.Forms.{form_of}
+use Rattle.mp_run.proofs.TopLaws.{told_long, long_told}
+use Rattle.mp_run.proofs.Accepting.{told_done}
 use Rattle.mp_run.proofs.top.top_plain.Goals as goal
 
-pub returns-in-Err-clause-read_before : goal.returns-in-Err-clause-read_before
-returns-in-Err-clause-read_before g c = λ files i told is.
-    rw (← c.in-Some.ensures) (c.in-Err.ensures.before files i told (ap Err is))
+pub returns-clause-too_long : goal.returns-clause-too_long
+returns-clause-too_long g c = λ files i told is.
+    told_long files (form_of (map string_bytes c.args.words.now)) _ _ c.answer-status.result i (c.answer-status.ensures.told files told) is
+
+pub returns-clause-long_is_refused : goal.returns-clause-long_is_refused
+returns-clause-long_is_refused g c = λ files i told long.
+    long_told files (form_of (map string_bytes c.args.words.now)) _ _ c.answer-status.result i (c.answer-status.ensures.told files told) long
+
+pub returns-clause-complete : goal.returns-clause-complete
+returns-clause-complete g c = λ files told accepts reads writes.
+    told_done files (form_of (map string_bytes c.args.words.now)) _ _ c.answer-status.result accepts (c.answer-status.ensures.told files told)
+    (λ i is. reads (c.answer-status.ensures.read_fault i is))
+    (λ is. writes (c.answer-status.ensures.write_fault is))

@@ -1,0 +1,55 @@
+-- Words and files that are accepted, so that only a fault or want of memory keeps the text from being written.
+use Rattle.std.specs.Prelude.{◌≡◌, ◌≤◌, ℕ, List, length, Option, Some, None, Ok}
+use Rattle.mp_io.specs.Files.{Files, file_at}
+use Rattle.mp_topology.specs.declared.topology.Topology.{Topology}
+use Rattle.mp_topology.specs.Topology.{topology_in}
+use Rattle.mp_page.specs.Boxes.{boxes_in}
+use Rattle.mp_run.specs.declared.script.Script.{Script}
+use Rattle.mp_run.specs.declared.status.Status.{Status}
+use Rattle.mp_run.specs.declared.status.Status.TheVariants as end
+use Rattle.mp_run.specs.Forms.{Names, Form, serial, pages, help, version}
+use Rattle.mp_run.specs.ScriptText.{script_in}
+
+-- The file is there, and no longer than a file may be.
+pub record Holds (files : Files) (name : List ℕ) : Type 0 where
+  pub bytes : List ℕ
+  pub there : file_at files name ≡ Some bytes
+  pub within : length bytes ≤ 16777216
+
+-- The three files are there, and what they say is accepted.
+pub record AcceptsRun (files : Files) (names : Names) : Type 0 where
+  pub topology_file : Holds files names.topology
+  pub boxes_file : Holds files names.boxes
+  pub script_file : Holds files names.script
+  pub topology : Topology
+  pub boxes : List (List ℕ)
+  pub script : Script
+  pub topology_read : topology_in topology_file.bytes ≡ Ok topology
+  pub boxes_read : boxes_in boxes_file.bytes ≡ Ok boxes
+  pub script_read : script_in topology.near.nodes script_file.bytes ≡ Ok script
+
+-- The file of boxes is there, and accepted.
+pub record AcceptsPages (files : Files) (name : List ℕ) : Type 0 where
+  pub boxes_file : Holds files name
+  pub boxes : List (List ℕ)
+  pub boxes_read : boxes_in boxes_file.bytes ≡ Ok boxes
+
+-- the words are a form, and its files are accepted
+abbrev pub Accepts : Files → Option Form → Type 0
+Accepts files (Some (serial names)) = AcceptsRun files names
+Accepts files (Some (pages name max)) = AcceptsPages files name
+Accepts files (Some help) = Unit {0}
+Accepts files (Some version) = Unit {0}
+Accepts files None = ⊥
+
+-- the text was written, or memory ran out
+abbrev pub IsDone : Status → Type 0
+IsDone end.Ok = Unit {0}
+IsDone end.NoMemory = Unit {0}
+IsDone _ = ⊥
+
+-- this status, unless memory ran out or a file couldn't be read
+abbrev pub IsUnlessFree : Status → Status → Type 0
+IsUnlessFree wanted end.NoMemory = Unit {0}
+IsUnlessFree wanted (end.ReadFault i) = Unit {0}
+IsUnlessFree wanted status = status ≡ wanted

@@ -1,0 +1,91 @@
+//! What the files say, or the status with which a call ends that can't read them.
+
+ghost use Rattle.std.specs.Prelude.{◌≡◌, ◌≤◌, ℕ, Some, Ok, Err, IfOk, IfErr, All, length};
+ghost use Rattle.mp_io.specs.Causes.{Rose};
+ghost use Rattle.mp_io.specs.Files.{Files};
+ghost use Rattle.mp_page.specs.Boxes.{boxes_in};
+ghost use Rattle.mp_run.specs.Outcome.{read_of, topology_or, boxes_or, script_or, Gives, IsReadStatus, IsTextStatus};
+ghost use Rattle.mp_run.specs.Built.{IsScript};
+ghost use Rattle.mp_run.specs.ScriptText.{script_in};
+ghost use Rattle.mp_topology.specs.Topology.{topology_in};
+ghost use Rattle.mp_topology.specs.Facts.{IsTopology, IsBuilt};
+
+use crate::script::Script;
+use crate::script_reading::read_script;
+use crate::status::{ScriptError, Status};
+use mp_io::errors::ReadError;
+use mp_io::folder::Folder;
+use mp_page::{BoxError, read_boxes};
+use mp_topology::errors::TopologyError;
+use mp_topology::reading::read_topology;
+use mp_topology::topology::Topology;
+use sqlite_items::Items;
+use std::alloc::Global;
+
+/// The most bytes that a file may have.
+const MOST_BYTES: usize = 16_777_216;
+
+/// Reads the file with number `file`, of this name.
+pub(crate) fn read_file<F: Folder>(
+    alloc: Global,
+    folder: &mut F,
+    name: &str,
+    file: u8,
+) -> Result<Vec<u8>, Status>
+    ensures told { (files : Files) → F.files folder.old ≡ Some files → Gives (λ bytes. bytes.items) result (read_of files file name.now) }
+    ensures within { IfOk result (λ bytes. length bytes.items ≤ 16777216) }
+    ensures refused { IfErr result IsReadStatus }
+    ensures found { (files : Files) → F.files folder.old ≡ Some files → IfOk result (λ bytes. read_of files file name.now ≡ Ok bytes.items) }
+    ensures fault { (i : ℕ) → result ≡ Err (Status.ReadFault i) → (i ≡ file) × Rose (F.faults folder.old) (F.faults folder.new) }
+    ensures later { F.faults folder.old ≤ F.faults folder.new }
+    ensures kept { F.files folder.new ≡ F.files folder.old }
+{
+    match folder.read(alloc, name, MOST_BYTES) {
+        Ok(bytes) => Ok(bytes),
+        Err(ReadError::Failed) => Err(Status::ReadFault(file)),
+        Err(ReadError::TooLong) => Err(Status::TooLong(file)),
+        Err(ReadError::NoMemory) => Err(Status::NoMemory),
+    }
+}
+
+/// The topology of a text.
+pub(crate) fn topology_of(alloc: Global, bytes: &[u8]) -> Result<Topology, Status>
+    ensures exact { Gives (λ t. t) result (topology_or (topology_in bytes.now)) }
+    ensures refused { IfErr result IsTextStatus }
+    ensures read { IfOk result IsTopology }
+    ensures built { IfOk result IsBuilt }
+{
+    match read_topology(alloc, bytes) {
+        Ok(topology) => Ok(topology),
+        Err(TopologyError::NoMemory) => Err(Status::NoMemory),
+        Err(refusal) => Err(Status::Topology(refusal)),
+    }
+}
+
+/// The boxes of a file.
+pub(crate) fn boxes_of(alloc: Global, bytes: &[u8]) -> Result<Items<Items<u8>>, Status>
+    requires { length bytes.now ≤ 16777216 }
+    ensures exact { Gives (λ boxes. boxes) result (boxes_or (boxes_in bytes.now)) }
+    ensures refused { IfErr result IsTextStatus }
+    ensures pages { IfOk result (λ boxes. All (λ page. length page ≤ 65536) boxes) }
+{
+    match read_boxes(alloc, bytes) {
+        Ok(boxes) => Ok(boxes),
+        Err(BoxError::NoMemory) => Err(Status::NoMemory),
+        Err(refusal) => Err(Status::Boxes(refusal)),
+    }
+}
+
+/// The script of a text.
+pub(crate) fn script_of(alloc: Global, bytes: &[u8], nodes: u8) -> Result<Script, Status>
+    requires { nodes ≤ 8 }
+    ensures exact { Gives (λ s. s) result (script_or (script_in nodes bytes.now)) }
+    ensures refused { IfErr result IsTextStatus }
+    ensures built { IfOk result IsScript }
+{
+    match read_script(alloc, bytes, nodes) {
+        Ok(script) => Ok(script),
+        Err(ScriptError::NoMemory) => Err(Status::NoMemory),
+        Err(refusal) => Err(Status::Script(refusal)),
+    }
+}
