@@ -4,3 +4,4 @@ pub mod Order
 pub mod Effect
 pub mod RequestView
 pub mod Request
+pub mod Answers

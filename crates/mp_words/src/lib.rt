@@ -2,6 +2,7 @@
 //! be done to them, and requests with their tries.
 #![tactic(auto)]
 
+pub mod answers;
 pub mod entry;
 pub mod flight;
 pub mod name;
