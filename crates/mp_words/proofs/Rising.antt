@@ -72,7 +72,7 @@ missing req attempt [] p le place = refl
 missing req attempt (a ∷ answers) zero le place = absurd (omega arith)
 missing req attempt (a ∷ answers) (suc p) le place =
     rw (earlier_other a req attempt (place.0 0 a (omega arith) (omega arith)))
-      (missing req attempt answers p (omega arith) (λ k d z l. place.0 (suc k) d (omega arith) (omega arith), λ k d l m. absurd (omega arith)))
+    (missing req attempt answers p (omega arith) (λ k d z l. place.0 (suc k) d (omega arith) (omega arith), λ k d l m. absurd (omega arith)))
 
 pub any_found : (p : Answer → Bool) (answers : List Answer) → list_any p answers ≡ is_some (find p answers)
 any_found p [] = refl

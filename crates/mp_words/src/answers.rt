@@ -121,8 +121,7 @@ impl Answers {
 fn is_earlier(answer: &Answer, req: ReqId, attempt: u32) -> bool
     ensures { result ≡ is_earlier req attempt answer.now }
 {
-    answer.req.get() < req.get()
-        || (answer.req.get() == req.get() && answer.attempt < attempt)
+    answer.req.get() < req.get() || (answer.req.get() == req.get() && answer.attempt < attempt)
 }
 
 /// Whether the answer is that of this attempt of this request.
