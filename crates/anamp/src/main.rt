@@ -3,8 +3,9 @@
 
 use mp_io::host::{HostFolder, HostOut};
 use mp_page::BoxError;
-use mp_run::status::{ScriptError, Status};
+use mp_run::status::Status;
 use mp_run::top::top_plain;
+use mp_script::errors::ScriptError;
 use mp_topology::errors::{Place, TopologyError};
 use std::alloc::{AllocError, Global};
 use std::env;
@@ -33,11 +34,23 @@ fn topology_line(alloc: Global, error: TopologyError) -> Result<String, AllocErr
     }
 }
 
+/// A refusal that carries a number of the script: a line, from 1, or an offset.
+fn numbered_line(alloc: Global, name: &str, number: u32) -> Result<String, AllocError> {
+    format!(in alloc; "script refused {name} {number}")
+}
+
 /// What is said of a refused script.
 fn script_line(alloc: Global, error: ScriptError) -> Result<String, AllocError> {
     match error {
-        ScriptError::NotBuilt(line) => format!(in alloc; "script refused NotBuilt {line}"),
+        ScriptError::NotAscii(offset) => numbered_line(alloc, "NotAscii", offset),
+        ScriptError::Line(line) => numbered_line(alloc, "Line", line),
+        ScriptError::Unknown(line) => numbered_line(alloc, "Unknown", line),
+        ScriptError::Number(line) => numbered_line(alloc, "Number", line),
+        ScriptError::Repeat(line) => numbered_line(alloc, "Repeat", line),
+        ScriptError::NotKeeper(line) => numbered_line(alloc, "NotKeeper", line),
+        ScriptError::Limit(line) => numbered_line(alloc, "Limit", line),
         ScriptError::NoMemory => String::from_str(alloc, "out of memory"),
+        ScriptError::NotBuilt(line) => numbered_line(alloc, "NotBuilt", line),
     }
 }
 

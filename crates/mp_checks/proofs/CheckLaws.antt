@@ -1,11 +1,30 @@
 -- Laws of lists of checks.
-use Rattle.std.proofs.Common.{◌⊎◌, inl, inr, zero, ◌≡◌, ℕ, suc, ◌+◌, ◌<◌, ◌≤◌, Bool, true, false, List, [], ◌∷◌, ◌++◌, length, take, drop, get_or, Option, Some, None, Result, Ok, Err, refl, sym, ap, ◌∙◌, append_assoc, add-zero, zero-add, arith}
+use Rattle.std.proofs.Common.{◌⊎◌, inl, inr, zero, ◌≡◌, ℕ, suc, ◌+◌, ◌<◌, ◌≤◌, Bool, true, false, List, [], ◌∷◌, ◌++◌, length, take, drop, get_or, Option, Some, None, refl, sym, ap, ◌∙◌, append_assoc, add-zero, zero-add, arith}
 use Rattle.std.proofs.lemmas.List.{length-take-le, take_more, take_all, drop_more, take-append-drop, append-nil}
-use Rattle.mp_checks.specs.Checks.{first_fault, AllPass, each_from, or_else, IsLeast}
+use Rattle.mp_checks.specs.Checks.{first_fault, AllPass, each_from, or_else, IsLeast, IsFirst}
 
 pub first_fault-append : {E : Type 0} (before after : List (Bool × E)) → AllPass before → first_fault (before ++ after) ≡ first_fault after
 first_fault-append [] after pass = refl
 first_fault-append (c ∷ before) after pass = rw pass.0 (first_fault-append before after pass.1)
+
+pub all_pass : {E : Type 0} (cs : List (Bool × E)) → first_fault cs ≡ None → AllPass cs
+all_pass [] none = tt
+all_pass ((true, f) ∷ cs) none = (refl, all_pass cs none)
+all_pass ((false, f) ∷ cs) none = absurd cc
+
+pub no_fault : {E : Type 0} (cs : List (Bool × E)) → AllPass cs → first_fault cs ≡ None
+no_fault [] pass = refl
+no_fault (c ∷ cs) pass = rw pass.0 (no_fault cs pass.1)
+
+pub first_from_fault : {E : Type 0} (cs : List (Bool × E)) (fault : E) → first_fault cs ≡ Some fault → IsFirst cs fault
+first_from_fault [] fault h = absurd cc
+first_from_fault ((true, f) ∷ cs) fault h =
+    let rest = first_from_fault cs fault h in
+    record { before = (true, f) ∷ rest.before; after = rest.after; parts = ap (λ ds. (true, f) ∷ ds) rest.parts; pass = (refl, rest.pass) }
+first_from_fault ((false, f) ∷ cs) fault h = record { before = []; after = cs; parts = ap (λ e. (false, e) ∷ cs) cc; pass = tt }
+
+pub fault_from_first : {E : Type 0} (cs : List (Bool × E)) (fault : E) → IsFirst cs fault → first_fault cs ≡ Some fault
+fault_from_first cs fault h = ap first_fault h.parts ∙ first_fault-append h.before ((false, fault) ∷ h.after) h.pass
 
 pub pass_split : {E : Type 0} (cs ds : List (Bool × E)) → AllPass (cs ++ ds) → AllPass cs × AllPass ds
 pass_split [] ds pass = (tt, pass)

@@ -1,5 +1,5 @@
 -- A reader's checks in their order. Each is a test with the refusal that is answered where it is the first to fail.
-use Rattle.std.specs.Prelude.{◌≡◌, ◌<◌, length, slice_index_or, ℕ, suc, Bool, true, List, [], ◌∷◌, ◌++◌, Option, Some, None, Result, Ok, Err, if◌then◌else◌}
+use Rattle.std.specs.Prelude.{◌≡◌, ◌<◌, length, slice_index_or, ℕ, suc, Bool, true, false, List, [], ◌∷◌, ◌++◌, Option, Some, None, Result, Ok, Err, if◌then◌else◌}
 
 -- the refusal of the first test that fails
 abbrev pub first_fault : {E : Type 0} → List (Bool × E) → Option E
@@ -10,6 +10,13 @@ first_fault (c ∷ cs) = if c.0 then first_fault cs else Some c.1
 abbrev pub AllPass : {E : Type 0} → List (Bool × E) → Type 0
 AllPass [] = Unit {0}
 AllPass (c ∷ cs) = (c.0 ≡ true) × AllPass cs
+
+-- The refusal is that of the first check that fails: those before it pass.
+pub record IsFirst {E : Type 0} (checks : List (Bool × E)) (fault : E) : Type 0 where
+  pub before : List (Bool × E)
+  pub after : List (Bool × E)
+  pub parts : checks ≡ before ++ (false, fault) ∷ after
+  pub pass : AllPass before
 
 -- What is answered is what is read, unless memory ran out.
 abbrev pub Answers : {V E : Type 0} → E → Result V E → Result V E → Type 0

@@ -2,5 +2,6 @@
 //! which the first that fails decides, and a set of small numbers that is looked up by index.
 #![tactic(auto)]
 
+pub mod digits;
 pub mod laws;
 pub mod marks;

@@ -1,8 +1,9 @@
 -- The text that tells of log pages, line by line. Its form is this project's own; the ANA states have the names of NVM
 -- Express Base Specification 2.0, "Asymmetric Namespace Access".
-use Rattle.std.specs.Prelude.{ℕ, suc, ◌==◌, List, [], ◌∷◌, ◌++◌, codes, length, Result, Ok, Err, if◌then◌else◌}
+use Rattle.std.specs.Prelude.{ℕ, suc, List, [], ◌∷◌, ◌++◌, codes, length, Result, Ok, Err}
 use Rattle.std.specs.List.{flat_map}
 use Rattle.std.specs.Fmt.{decimal}
+use Rattle.mp_words.specs.Names.{state_word}
 use Rattle.mp_page.specs.declared.page.Group.{Group}
 use Rattle.mp_page.specs.declared.page.Page.{Page}
 use Rattle.mp_page.specs.declared.page.PageError.{PageError}
@@ -17,16 +18,6 @@ next_word n = codes "," ++ decimal n
 abbrev pub numbers_word : List ℕ → List ℕ
 numbers_word [] = codes "-"
 numbers_word (n ∷ ns) = decimal n ++ flat_map next_word ns
-
--- the name of an ANA state
-abbrev pub state_word : ℕ → List ℕ
-state_word state =
-    if state == 1 then codes "optimized"
-    else (if state == 2 then codes "non-optimized"
-    else (if state == 3 then codes "inaccessible"
-    else (if state == 4 then codes "persistent-loss"
-    else (if state == 15 then codes "change"
-    else codes "reserved-" ++ decimal state))))
 
 -- the check that a page fails; want of memory is no check
 abbrev pub kind_word : PageError → List ℕ

@@ -2,10 +2,11 @@
 ghost use Rattle.std.specs.Prelude.{◌≡◌, ◌≤◌, ◌++◌, ℕ, length, string_bytes, codes, Ok, Err, All, OnOk, IfOk, IfErr};
 ghost use Rattle.std.specs.List.{flat_map};
 ghost use Rattle.mp_page.specs.Page.{page_in};
-ghost use Rattle.mp_page.specs.Text.{numbers_word, state_word, kind_word, offset_of, group_line, page_lines, refused_line, box_lines, lines_from, pages_text};
+ghost use Rattle.mp_page.specs.Text.{numbers_word, kind_word, offset_of, group_line, page_lines, refused_line, box_lines, lines_from, pages_text};
 
 use crate::page::{Group, Page, PageError};
 use crate::reading::read_page;
+use mp_words::names::put_state;
 use sqlite_items::Items;
 use std::alloc::{AllocError, Global};
 use std::fmt::Write;
@@ -21,19 +22,6 @@ fn put_numbers(text: &mut String, numbers: &[u32]) -> Result<(), AllocError>
         write!(text, ",{n}")?;
     }
     Ok(())
-}
-
-fn put_state(text: &mut String, state: u8) -> Result<(), AllocError>
-    ensures { OnOk result (string_bytes text.new ≡ string_bytes text.old ++ state_word state) }
-{
-    match state {
-        1 => text.push_str("optimized"),
-        2 => text.push_str("non-optimized"),
-        3 => text.push_str("inaccessible"),
-        4 => text.push_str("persistent-loss"),
-        15 => text.push_str("change"),
-        _ => write!(text, "reserved-{state}"),
-    }
 }
 
 fn put_group(text: &mut String, group: &Group) -> Result<(), AllocError>

@@ -1,18 +1,15 @@
 -- How the run text writes numbers, lists, and what a row, an order and an entry have.
-use Rattle.std.specs.Prelude.{ℕ, ◌-◌, ◌^◌, ◌==◌, Bool, true, false, ◌||◌, List, [], ◌∷◌, ◌++◌, codes, Option, Some, None, slice_get, if◌then◌else◌}
+use Rattle.std.specs.Prelude.{ℕ, Bool, ◌||◌, List, [], ◌∷◌, ◌++◌, codes, if◌then◌else◌}
 use Rattle.std.specs.List.{flat_map}
-use Rattle.std.specs.Fmt.{decimal, digits, padded_integral, format_spec}
+use Rattle.std.specs.Fmt.{decimal}
 use Rattle.mp_words.specs.declared.row.Row.{Row}
-use Rattle.mp_words.specs.declared.row.CState.{CState}
-use Rattle.mp_words.specs.declared.row.CState.TheVariants.{New, Live, Resetting, Connecting, Deleting, DeletingNoio, Dead}
-use Rattle.mp_words.specs.declared.row.Policy.{Policy}
-use Rattle.mp_words.specs.declared.row.Policy.TheVariants.{Numa, RoundRobin, QueueDepth}
 use Rattle.mp_words.specs.declared.entry.Grace.{Grace}
 use Rattle.mp_words.specs.declared.entry.Grace.TheVariants as grace
 use Rattle.mp_words.specs.declared.op.Maker.{Maker}
 use Rattle.mp_words.specs.declared.op.Maker.TheVariants.{Start, Line, Hop}
+use Rattle.mp_words.specs.Names.{cstate_word, state_word}
 use Rattle.mp_words.specs.Row.{is_given}
-use Rattle.mp_topology.specs.declared.topology.Controller.{Controller}
+use Rattle.mp_topology.specs.Names.{name_of}
 use Rattle.mp_topology.specs.declared.topology.Topology.{Topology}
 
 -- a word with one number, with two, and with three
@@ -51,37 +48,9 @@ or_dash (x ∷ xs) text = text
 abbrev pub list_word : {X : Type 0} → (X → List ℕ) → List X → List ℕ
 list_word word xs = or_dash xs (joined word xs)
 
--- a status in four hexadecimal digits, in upper case
-abbrev pub status_word : ℕ → List ℕ
-status_word status = padded_integral (format_spec 32 0 4 4 (2 ^ 64 - 1)) false [] (digits 16 true status)
-
-abbrev pub policy_word : Policy → List ℕ
-policy_word Numa = codes "numa"
-policy_word RoundRobin = codes "round-robin"
-policy_word QueueDepth = codes "queue-depth"
-
-abbrev pub cstate_word : CState → List ℕ
-cstate_word New = codes "new"
-cstate_word Live = codes "live"
-cstate_word Resetting = codes "resetting"
-cstate_word Connecting = codes "connecting"
-cstate_word Deleting = codes "deleting"
-cstate_word DeletingNoio = codes "deleting-noio"
-cstate_word Dead = codes "dead"
-
 abbrev pub grace_word : Grace → List ℕ
 grace_word grace.A = codes "a"
 grace_word grace.B = codes "b"
-
--- the name of an ANA state
-abbrev pub state_word : ℕ → List ℕ
-state_word state =
-    if state == 1 then codes "optimized"
-    else (if state == 2 then codes "non-optimized"
-    else (if state == 3 then codes "inaccessible"
-    else (if state == 4 then codes "persistent-loss"
-    else (if state == 15 then codes "change"
-    else codes "reserved-" ++ decimal state))))
 
 -- a letter, where its flag is on
 abbrev pub letter : Bool → List ℕ → List ℕ
@@ -103,14 +72,6 @@ abbrev pub maker_word : Maker → List ℕ
 maker_word Start = codes "open"
 maker_word (Line lane line) = decimal lane ++ codes "." ++ decimal line
 maker_word (Hop lane req hop) = decimal lane ++ codes "/" ++ decimal req ++ codes "." ++ decimal hop
-
-abbrev pub name_in : Option Controller → List ℕ
-name_in (Some controller) = controller.name
-name_in None = []
-
--- the name of a controller
-abbrev pub name_of : Topology → ℕ → List ℕ
-name_of t ctrl = name_in (slice_get t.controllers ctrl)
 
 -- a path's controller, its state, the ANA state and the flags; or that the slot is free
 abbrev pub path_word : Topology → Row → List ℕ

@@ -5,7 +5,8 @@ ghost use Rattle.mp_record.specs.EventText.{check_word, said_word, end_word, bac
 
 use crate::event::{Event, Said};
 use crate::note_text::put_section;
-use crate::words::{cstate_name, grace_name, put_one, put_pair, put_statuses, put_three, put_two};
+use crate::words::{grace_name, put_one, put_pair, put_statuses, put_three, put_two};
+use mp_words::names::cstate_name;
 use mp_words::trying::{Back, TryEnd};
 use std::alloc::AllocError;
 

@@ -7,9 +7,10 @@ ghost use Rattle.mp_record.specs.RunText.{head_line, row_line, is_written, order
 ghost use Rattle.mp_record.specs.NotedText.{written_row, written_rows, noted_keep};
 
 use crate::note_text::put_closing;
-use crate::words::{policy_name, put_maker, put_one, put_path, put_slots, put_two};
+use crate::words::{put_maker, put_one, put_path, put_slots, put_two};
 use mp_topology::topology::Topology;
 use mp_words::entry::{KeepEntry, OrderEntry, RowEntry};
+use mp_words::names::policy_name;
 use mp_words::numbers::Slot;
 use mp_words::order::Order;
 use sqlite_items::Items;

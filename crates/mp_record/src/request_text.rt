@@ -8,7 +8,8 @@ ghost use Rattle.mp_record.specs.RunText.{as_written, trail, try_names, version_
 ghost use Rattle.mp_record.specs.NotedText.{tries_line, asked_line};
 
 use crate::event_text::first_statuses;
-use crate::words::{controller_name, put_comma, put_dash, put_two};
+use crate::words::{put_comma, put_dash, put_two};
+use mp_topology::names::controller_name;
 use mp_topology::topology::Topology;
 use mp_words::entry::RowEntry;
 use mp_words::numbered::Numbered;

@@ -2,10 +2,13 @@
 
 ghost use Rattle.std.specs.Prelude.{◌≡◌, ◌++◌, OnOk, codes, string_bytes};
 ghost use Rattle.std.specs.Fmt.{decimal};
-ghost use Rattle.mp_record.specs.Words.{one_number, two_numbers, three_numbers, pair_word, comma, dash, letter, policy_word, cstate_word, grace_word, state_word, flags_word, maker_word, path_word, name_of, list_word, status_word};
+ghost use Rattle.mp_record.specs.Words.{one_number, two_numbers, three_numbers, pair_word, comma, dash, letter, grace_word, flags_word, maker_word, path_word, list_word};
+ghost use Rattle.mp_words.specs.Names.{status_word};
 
+use mp_topology::names::controller_name;
 use mp_topology::topology::Topology;
 use mp_words::entry::Grace;
+use mp_words::names::{cstate_name, put_state};
 use mp_words::numbers::{Ctrl, Slot};
 use mp_words::op::Maker;
 use mp_words::row::{CState, Policy, Row};
@@ -65,32 +68,6 @@ pub(crate) fn put_dash(text: &mut String, further: bool) -> Result<(), AllocErro
     text.push_str("-")
 }
 
-/// The name of a policy.
-pub(crate) fn policy_name(policy: Policy) -> &'static str
-    ensures { result.now ≡ policy_word policy }
-{
-    match policy {
-        Policy::Numa => "numa",
-        Policy::RoundRobin => "round-robin",
-        Policy::QueueDepth => "queue-depth",
-    }
-}
-
-/// The name of a controller's state.
-pub(crate) fn cstate_name(cstate: CState) -> &'static str
-    ensures { result.now ≡ cstate_word cstate }
-{
-    match cstate {
-        CState::New => "new",
-        CState::Live => "live",
-        CState::Resetting => "resetting",
-        CState::Connecting => "connecting",
-        CState::Deleting => "deleting",
-        CState::DeletingNoio => "deleting-noio",
-        CState::Dead => "dead",
-    }
-}
-
 /// The letter of a grace period.
 pub(crate) fn grace_name(grace: Grace) -> &'static str
     ensures { result.now ≡ grace_word grace }
@@ -98,30 +75,6 @@ pub(crate) fn grace_name(grace: Grace) -> &'static str
     match grace {
         Grace::A => "a",
         Grace::B => "b",
-    }
-}
-
-/// The name of a controller, or nothing where the topology has none of this number.
-pub(crate) fn controller_name<'t>(topology: &'t Topology, ctrl: Ctrl) -> &'t str
-    ensures { result.now ≡ name_of topology.now ctrl }
-{
-    match topology.controllers.as_slice().get(ctrl.get() as usize) {
-        Some(controller) => controller.name.as_str(),
-        None => "",
-    }
-}
-
-/// The name of an ANA state.
-fn put_state(text: &mut String, state: u8) -> Result<(), AllocError>
-    ensures { OnOk result (string_bytes text.new ≡ string_bytes text.old ++ state_word state) }
-{
-    match state {
-        1 => text.push_str("optimized"),
-        2 => text.push_str("non-optimized"),
-        3 => text.push_str("inaccessible"),
-        4 => text.push_str("persistent-loss"),
-        15 => text.push_str("change"),
-        _ => write!(text, "reserved-{state}"),
     }
 }
 

@@ -1,18 +1,14 @@
 -- Words and files that are accepted have a text.
-use Rattle.std.proofs.Common.{◌≡◌, ℕ, ◌<◌, ◌≤◌, nat_le, Bool, true, false, List, length, Option, Some, None, Result, Ok, Err, refl, sym, ap, ◌∙◌, arith, if◌then◌else◌}
+use Rattle.std.proofs.Common.{◌≡◌, ℕ, nat_le, true, List, length, Option, Some, None, Result, Ok, refl}
 use Rattle.std.proofs.lemmas.Bool.{le-leb}
-use Rattle.mp_io.specs.Causes.{Rose}
-use Rattle.mp_io.specs.Files.{Files, file_at}
-use Rattle.mp_topology.specs.Topology.{topology_in}
-use Rattle.mp_page.specs.Boxes.{boxes_in}
+use Rattle.mp_io.specs.Files.{Files}
 use Rattle.mp_page.specs.Text.{pages_text}
 use Rattle.mp_run.specs.declared.status.Status.{Status}
 use Rattle.mp_run.specs.declared.status.Status.TheVariants as end
 use Rattle.mp_run.specs.Accepted.{Holds, AcceptsRun, AcceptsPages, Accepts, IsDone}
 use Rattle.mp_run.specs.Forms.{Names, Form, serial, pages, help, version}
 use Rattle.mp_run.specs.Help.{help_text, version_text}
-use Rattle.mp_run.specs.Outcome.{◌>>=◌, read_found, read_of, topology_or, boxes_or, script_or, serial_text, serial_for, serial_in, pages_for, pages_in, for_form, Answers}
-use Rattle.mp_run.specs.ScriptText.{script_in}
+use Rattle.mp_run.specs.Outcome.{read_of, serial_text, serial_for, serial_in, pages_for, pages_in, for_form, Answers}
 
 abbrev HasText : Result (List ℕ) Status → Type 0
 HasText read = (text : List ℕ) × (read ≡ Ok text)
@@ -26,7 +22,7 @@ serial_has files names a =
     let t : read_of files 1 names.topology ≡ Ok a.topology_file.bytes = found_within 1 files names.topology a.topology_file in
     let p : read_of files 2 names.boxes ≡ Ok a.boxes_file.bytes = found_within 2 files names.boxes a.boxes_file in
     let s : read_of files 3 names.script ≡ Ok a.script_file.bytes = found_within 3 files names.script a.script_file in
-    (serial_text (record { topology = a.topology; pages = a.boxes }) a.script, rw (t, p, s, a.topology_read, a.boxes_read, a.script_read) refl)
+    (serial_text (record { topology = a.topology; pages = a.boxes }) a.script, rw (t, p, s, a.topology_read, a.boxes_read, a.fit, a.script_read) refl)
 
 pages_has : (files : Files) (name : List ℕ) (max : ℕ) → AcceptsPages files name → HasText (pages_in files name max)
 unfolding pages_in pages_for

@@ -1,11 +1,11 @@
 -- Numbers that differ.
 use Rattle.std.proofs.Common.{◌≡◌, ℕ, Bool, true, false, ◌||◌, ◌==◌, List, [], ◌∷◌, ◌++◌, map, refl, sym, ap, ◌∙◌, arith}
 use Rattle.std.proofs.lemmas.Bool.Decides.{nat_tests}
-use Rattle.std.specs.List.{list_any}
 use Rattle.mp_words.specs.Request.{Asked}
 use Rattle.mp_checks.specs.Marks.{has}
-use Rattle.mp_run.specs.Distinct.{IsDistinct}
-use Rattle.mp_run.proofs.Requests.{has_req, or_false}
+use Rattle.mp_run.specs.Numbers.{has_req}
+use Rattle.mp_script.specs.Distinct.{IsDistinct}
+use Rattle.mp_run.proofs.ByNumber.{or_false}
 
 or_join : (a b : Bool) → a ≡ false → b ≡ false → (a || b) ≡ false
 or_join a b p q = rw (p, q) refl

@@ -1,6 +1,5 @@
 -- Requests put at their numbers.
-use Rattle.std.proofs.Common.{◌≡◌, ℕ, List, [], ◌∷◌, ◌++◌, ◌+◌, suc, length, map, fold, refl, sym, ap, ◌∙◌, add-zero, arith}
-use Rattle.std.specs.List.{enumerate_from}
+use Rattle.std.proofs.Common.{◌≡◌, ℕ, List, [], ◌∷◌, ◌++◌, map, refl, ap}
 use Rattle.std.specs.declared.cmp.Ordering.{Ordering}
 use Rattle.std.specs.declared.cmp.Ordering.TheVariants.{Less, Equal, Greater}
 use Rattle.std.specs.BTreeMap.{insert_entry}
@@ -29,10 +28,3 @@ values_told (e ∷ es) = ap (λ xs. asked_of e.1 ∷ xs) (values_told es)
 -- one more request
 pub entries_of-more : (requests : List Asked) (a : Asked) → entries_of (requests ++ a ∷ []) ≡ insert_entry nat_cmp (entries_of requests) a.req a
 entries_of-more requests a = fold-append (λ (entries : List (ℕ × Asked)) (b : Asked). insert_entry nat_cmp entries b.req b) [] requests (a ∷ [])
-
--- with an index more
-pub enumerate-more : {X : Type 0} (n : ℕ) (xs : List X) (x : X) → enumerate_from n (xs ++ x ∷ []) ≡ enumerate_from n xs ++ (n + length xs, x) ∷ []
-enumerate-more n [] x = rw add-zero refl
-enumerate-more n (y ∷ xs) x =
-    let e : n + 1 + length xs ≡ n + suc (length xs) = omega arith in
-    ap (λ rest. (n, y) ∷ rest) (enumerate-more (n + 1) xs x ∙ ap (λ m. enumerate_from (n + 1) xs ++ (m, x) ∷ []) e)

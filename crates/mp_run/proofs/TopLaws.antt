@@ -1,22 +1,19 @@
 -- What follows from the status and the text of the top call being those of the outcome.
-use Rattle.std.proofs.Common.{◌≡◌, ◌⊎◌, inl, inr, ℕ, ◌<◌, ◌≤◌, nat_le, Bool, true, false, List, length, Option, Some, None, Result, Ok, Err, refl, sym, ap, ◌∙◌, arith, if◌then◌else◌}
-use Rattle.std.proofs.lemmas.Bool.{leb-true, le-leb}
-use Rattle.mp_io.specs.Causes.{Rose}
+use Rattle.std.proofs.Common.{◌≡◌, ◌⊎◌, inl, inr, ℕ, ◌<◌, nat_le, Bool, true, false, List, length, Option, Some, None, Result, Ok, Err, refl, ap, arith, if◌then◌else◌}
 use Rattle.mp_io.specs.Files.{Files, file_at}
-use Rattle.mp_topology.specs.declared.topology.Topology.{Topology}
 use Rattle.mp_topology.specs.declared.errors.TopologyError.{TopologyError}
 use Rattle.mp_topology.specs.Topology.{topology_in}
 use Rattle.mp_page.specs.declared.boxes.BoxError.{BoxError}
 use Rattle.mp_page.specs.Boxes.{boxes_in}
 use Rattle.mp_page.specs.Text.{pages_text}
-use Rattle.mp_run.specs.declared.script.Script.{Script}
+use Rattle.mp_script.specs.declared.errors.ScriptError.{ScriptError}
+use Rattle.mp_script.specs.declared.script.Script.{Script}
+use Rattle.mp_script.specs.Script.{script_in}
 use Rattle.mp_run.specs.declared.status.Status.{Status}
 use Rattle.mp_run.specs.declared.status.Status.TheVariants as end
-use Rattle.mp_run.specs.declared.status.ScriptError.{ScriptError}
-use Rattle.mp_run.specs.Accepted.{Holds, AcceptsRun, AcceptsPages, Accepts, IsDone, IsUnlessFree}
+use Rattle.mp_run.specs.Accepted.{IsUnlessFree}
 use Rattle.mp_run.specs.Forms.{Names, Form, serial, pages, help, version}
-use Rattle.mp_run.specs.Outcome.{◌>>=◌, read_found, read_of, topology_or, boxes_or, script_or, serial_text, serial_for, serial_in, pages_for, pages_in, for_form, IsRead, Answers, Refuses}
-use Rattle.mp_run.specs.ScriptText.{script_in}
+use Rattle.mp_run.specs.Outcome.{◌>>=◌, read_found, read_of, topology_or, fits_in, boxes_or, script_or, serial_text, serial_for, serial_in, pages_for, pages_in, for_form, Answers}
 use Rattle.mp_run.specs.TooLong.{IsLong, IsLongOf, IsTooLong}
 
 -- ---- a refusal, and what comes before it
@@ -29,7 +26,7 @@ bind_err (Err s) f e h = inl (ap Err cc)
 abbrev NeverLong : {A : Type 0} → Result A Status → Type 0
 NeverLong r = (i : ℕ) → r ≡ Err (end.TooLong i) → ⊥
 
-topology_short : (r : Result Topology TopologyError) → NeverLong (topology_or r)
+topology_short : {A : Type 0} (r : Result A TopologyError) → NeverLong (topology_or r)
 topology_short (Ok t) i h = cc
 topology_short (Err e) i h = cc
 
@@ -53,8 +50,9 @@ unfolding serial_for
 serial_short t p s =
     short_bind (topology_or (topology_in t)) _ (topology_short (topology_in t)) (λ topology.
     short_bind (boxes_or (boxes_in p)) _ (boxes_short (boxes_in p)) (λ boxes.
-    short_bind (script_or (script_in topology.near.nodes s)) _ (script_short (script_in topology.near.nodes s)) (λ script.
-    ok_short (serial_text (record { topology = topology; pages = boxes }) script))))
+    short_bind (topology_or (fits_in topology (length boxes))) _ (topology_short (fits_in topology (length boxes))) (λ u.
+    short_bind (script_or (script_in topology (length boxes) s)) _ (script_short (script_in topology (length boxes) s)) (λ script.
+    ok_short (serial_text (record { topology = topology; pages = boxes }) script)))))
 
 pages_short : (p : List ℕ) (max : ℕ) → NeverLong (pages_for p max)
 unfolding pages_for

@@ -4,11 +4,12 @@ use Rattle.mp_io.specs.Files.{Files, file_at}
 use Rattle.mp_topology.specs.declared.topology.Topology.{Topology}
 use Rattle.mp_topology.specs.Topology.{topology_in}
 use Rattle.mp_page.specs.Boxes.{boxes_in}
-use Rattle.mp_run.specs.declared.script.Script.{Script}
+use Rattle.mp_script.specs.declared.script.Script.{Script}
+use Rattle.mp_script.specs.Script.{script_in}
 use Rattle.mp_run.specs.declared.status.Status.{Status}
 use Rattle.mp_run.specs.declared.status.Status.TheVariants as end
 use Rattle.mp_run.specs.Forms.{Names, Form, serial, pages, help, version}
-use Rattle.mp_run.specs.ScriptText.{script_in}
+use Rattle.mp_run.specs.Outcome.{fits_in}
 
 -- The file is there, and no longer than a file may be.
 pub record Holds (files : Files) (name : List ℕ) : Type 0 where
@@ -26,7 +27,8 @@ pub record AcceptsRun (files : Files) (names : Names) : Type 0 where
   pub script : Script
   pub topology_read : topology_in topology_file.bytes ≡ Ok topology
   pub boxes_read : boxes_in boxes_file.bytes ≡ Ok boxes
-  pub script_read : script_in topology.near.nodes script_file.bytes ≡ Ok script
+  pub fit : fits_in topology (length boxes) ≡ Ok tt
+  pub script_read : script_in topology (length boxes) script_file.bytes ≡ Ok script
 
 -- The file of boxes is there, and accepted.
 pub record AcceptsPages (files : Files) (name : List ℕ) : Type 0 where

@@ -4,7 +4,7 @@ use Rattle.mp_words.specs.declared.row.CState.TheVariants as cstate
 use Rattle.mp_words.specs.declared.row.Policy.TheVariants as policy
 use Rattle.mp_run.specs.PlainCall.{Inputs}
 use Rattle.mp_run.specs.CaseParts.{eight}
-use Rattle.mp_run.specs.declared.script.LanePlan.{LanePlan}
+use Rattle.mp_script.specs.declared.script.LanePlan.{LanePlan}
 
 abbrev pub inputs : Inputs
 inputs = record {

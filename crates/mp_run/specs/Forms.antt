@@ -1,7 +1,7 @@
 -- The forms of the program's words.
 use Rattle.std.specs.Prelude.{ℕ, List, [], ◌∷◌, Option, Some, None, nat_le, ◌&&◌, codes, option_and_then, if◌then◌else◌}
 use Rattle.std.specs.Str.{bytes_eq}
-use Rattle.mp_run.specs.Digits.{number_in}
+use Rattle.mp_checks.specs.Digits.{number_of}
 
 -- the names of the topology, the boxes and the script
 pub record Names : Type 0 where
@@ -23,7 +23,7 @@ in_bound n = if nat_le 1 n && nat_le n 4294967295 then Some n else None
 
 -- one to ten digits that say one
 abbrev pub bound_in : List ℕ → Option ℕ
-bound_in digits = option_and_then in_bound (number_in digits)
+bound_in digits = option_and_then in_bound (number_of digits)
 
 -- the form of a word alone
 abbrev pub option_form : List ℕ → Option Form

@@ -1,25 +1,27 @@
 -- What the top call answers, where the files are told.
-use Rattle.std.specs.Prelude.{◌≡◌, ℕ, ◌<◌, ◌≤◌, List, [], ◌∷◌, Bool, false, Option, Some, None, Result, Ok, Err, nat_le, ◌==◌, length, codes, if◌then◌else◌}
-use Rattle.std.specs.Str.{bytes_eq}
+use Rattle.std.specs.Prelude.{◌≡◌, ℕ, ◌<◌, ◌≤◌, List, false, Option, Some, None, Result, Ok, Err, nat_le, length, if◌then◌else◌}
 use Rattle.std.specs.Io.KnownBytes.{Appends}
 use Rattle.mp_io.specs.Files.{Files, file_at}
 use Rattle.mp_io.specs.Taken.{AppendsFront}
 use Rattle.mp_topology.specs.declared.topology.Topology.{Topology}
 use Rattle.mp_topology.specs.declared.errors.TopologyError.{TopologyError}
 use Rattle.mp_topology.specs.Topology.{topology_in}
+use Rattle.mp_topology.specs.Fits.{fits_checks}
+use Rattle.mp_topology.specs.Unless.{value_unless}
+use Rattle.mp_checks.specs.Checks.{first_fault}
 use Rattle.mp_page.specs.declared.boxes.BoxError.{BoxError}
 use Rattle.mp_page.specs.Boxes.{boxes_in}
 use Rattle.mp_page.specs.Text.{pages_text}
 use Rattle.mp_record.specs.RunView.{noted}
 use Rattle.mp_record.specs.RunText.{run_text}
-use Rattle.mp_run.specs.declared.script.Script.{Script}
-use Rattle.mp_run.specs.declared.script.World.{World}
+use Rattle.mp_script.specs.declared.errors.ScriptError.{ScriptError}
+use Rattle.mp_script.specs.declared.script.Script.{Script}
+use Rattle.mp_script.specs.declared.script.World.{World}
+use Rattle.mp_script.specs.Script.{script_in}
 use Rattle.mp_run.specs.declared.status.Status.{Status}
 use Rattle.mp_run.specs.declared.status.Status.TheVariants as end
-use Rattle.mp_run.specs.declared.status.ScriptError.{ScriptError}
 use Rattle.mp_run.specs.Forms.{Names, Form, serial, pages, help, version, form_of}
 use Rattle.mp_run.specs.Help.{help_text, version_text}
-use Rattle.mp_run.specs.ScriptText.{script_in}
 use Rattle.mp_run.specs.PlainRun.{run_over}
 
 infixl 10 ◌>>=◌
@@ -36,9 +38,13 @@ read_found i (Some bytes) = if nat_le (length bytes) 16777216 then Ok bytes else
 abbrev pub read_of : Files → ℕ → List ℕ → Result (List ℕ) Status
 read_of files i name = read_found i (file_at files name)
 
-abbrev pub topology_or : Result Topology TopologyError → Result Topology Status
+abbrev pub topology_or : {A : Type 0} → Result A TopologyError → Result A Status
 topology_or (Ok t) = Ok t
 topology_or (Err e) = Err (end.Topology e)
+
+-- whether the page of each controller is among so many boxes, or the first whose page isn't
+abbrev pub fits_in : Topology → ℕ → Result (Unit {0}) TopologyError
+fits_in t boxes = value_unless (first_fault (fits_checks boxes t.controllers)) tt
 
 abbrev pub boxes_or : Result (List (List ℕ)) BoxError → Result (List (List ℕ)) Status
 boxes_or (Ok boxes) = Ok boxes
@@ -57,7 +63,8 @@ unfoldable pub serial_for : List ℕ → List ℕ → List ℕ → Result (List 
 serial_for t p s = do
   topology ← topology_or (topology_in t)
   boxes ← boxes_or (boxes_in p)
-  script ← script_or (script_in topology.near.nodes s)
+  _ ← topology_or (fits_in topology (length boxes))
+  script ← script_or (script_in topology (length boxes) s)
   Ok (serial_text (record { topology = topology; pages = boxes }) script)
 
 -- the text of a run of the three files, or the first refusal

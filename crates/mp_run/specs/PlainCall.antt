@@ -6,9 +6,9 @@ use Rattle.mp_words.specs.declared.op.Op.{Op}
 use Rattle.mp_words.specs.declared.flight.Flight.{Flight}
 use Rattle.mp_page.specs.declared.page.Page.{Page}
 use Rattle.mp_page.specs.declared.page.PageError.{PageError}
-use Rattle.mp_run.specs.declared.script.Answer.{Answer}
-use Rattle.mp_run.specs.declared.script.Script.{Script}
-use Rattle.mp_run.specs.declared.script.World.{World}
+use Rattle.mp_words.specs.declared.answers.Answer.{Answer}
+use Rattle.mp_script.specs.declared.script.Script.{Script}
+use Rattle.mp_script.specs.declared.script.World.{World}
 use Rattle.mp_topology.specs.declared.topology.Topology.{Topology}
 use Rattle.mp_run.specs.PlainState.{State}
 use Rattle.mp_run.specs.PlainSubmit.{submitted}

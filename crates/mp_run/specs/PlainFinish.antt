@@ -9,7 +9,7 @@ use Rattle.mp_words.specs.declared.trying.Back.TheVariants.{Set, Unset}
 use Rattle.mp_record.specs.declared.event.Event.TheVariants.{Fin}
 use Rattle.mp_run.specs.declared.class.Class.{Class}
 use Rattle.mp_run.specs.declared.class.Class.TheVariants.{Complete, Failover, Retry}
-use Rattle.mp_run.specs.declared.script.Answer.{Answer}
+use Rattle.mp_words.specs.declared.answers.Answer.{Answer}
 use Rattle.mp_words.specs.Effect.{cleared, the_slots}
 use Rattle.mp_run.specs.Answers.{hop_statuses, class_of_hop}
 use Rattle.mp_words.specs.Request.{Tried, attempts_of, map_last}

@@ -1,5 +1,5 @@
 -- One line of a lane, and a lane's end.
-use Rattle.std.specs.Prelude.{slice_index_or, ℕ, ◌==◌, nat_lt, List, [], ◌∷◌, ◌++◌, map, filter, length, Option, Some, None, Result, Ok, Err}
+use Rattle.std.specs.Prelude.{slice_index_or, ℕ, ◌==◌, List, [], ◌∷◌, ◌++◌, map, filter, length, Option, Some, None, Result, Ok, Err}
 use Rattle.mp_words.specs.declared.op.Op.TheVariants as op
 use Rattle.mp_words.specs.declared.flight.Flight.{Flight}
 use Rattle.mp_record.specs.declared.event.Event.TheVariants.{At}
@@ -8,9 +8,9 @@ use Rattle.mp_record.specs.declared.event.Said.TheVariants as said
 use Rattle.mp_page.specs.declared.page.Page.{Page}
 use Rattle.mp_page.specs.declared.page.PageError.{PageError}
 use Rattle.mp_page.specs.declared.page.PageError.TheVariants as refusal
-use Rattle.mp_run.specs.declared.script.Line.{Line}
-use Rattle.mp_run.specs.declared.script.Line.TheVariants as line
-use Rattle.mp_run.specs.declared.script.Numbered1.{Numbered1}
+use Rattle.mp_script.specs.declared.script.Line.{Line}
+use Rattle.mp_script.specs.declared.script.Line.TheVariants as line
+use Rattle.mp_script.specs.declared.script.Numbered1.{Numbered1}
 use Rattle.mp_page.specs.Gifts.{page_at, gift_of, state_for, changing}
 use Rattle.mp_run.specs.PlainState.{State}
 use Rattle.mp_run.specs.PlainCall.{Inputs, Call, submit, finish, change, add, remove, set_policy, reap, call}

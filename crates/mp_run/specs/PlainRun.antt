@@ -1,17 +1,15 @@
 -- The run of a script on one thread: the opening, the lanes by turns, and the drain.
-use Rattle.std.specs.Prelude.{ℕ, ◌==◌, List, [], ◌∷◌, ◌++◌, map, filter, length, position, fold, Option}
+use Rattle.std.specs.Prelude.{ℕ, ◌==◌, List, [], ◌∷◌, ◌++◌, map, filter, length, position, fold}
 use Rattle.std.specs.List.{enumerate_from, range_with_len, flat_map}
 use Rattle.std.specs.BTreeMap.{insert_entry}
 use Rattle.std.specs.Ordering.{nat_cmp}
 use Rattle.mp_words.specs.declared.entry.RowEntry.{RowEntry}
-use Rattle.mp_words.specs.declared.entry.KeepEntry.{KeepEntry}
 use Rattle.mp_words.specs.declared.entry.KeepEntry.TheVariants as keep
 use Rattle.mp_record.specs.declared.event.Event.{Event}
+use Rattle.mp_script.specs.declared.script.LanePlan.{LanePlan}
+use Rattle.mp_script.specs.declared.script.Script.{Script}
+use Rattle.mp_script.specs.declared.script.World.{World}
 use Rattle.mp_page.specs.Page.{page_in}
-use Rattle.mp_run.specs.declared.script.LanePlan.{LanePlan}
-use Rattle.mp_run.specs.declared.script.Script.{Script}
-use Rattle.mp_run.specs.declared.script.World.{World}
-use Rattle.mp_topology.specs.declared.topology.Topology.{Topology}
 use Rattle.mp_words.specs.Request.{Asked}
 use Rattle.mp_record.specs.RunView.{RunView}
 use Rattle.mp_run.specs.PlainState.{State}
@@ -70,10 +68,6 @@ abbrev pub plain_run : Inputs → List LanePlan → RunView
 plain_run i lanes =
     let ts = taken i (opening i) (turns_of lanes) in
     run_of i lanes ts (drain i (state_after (opening i) ts))
-
--- the run of a script's lanes over a topology alone, without pages and scripted statuses
-unfoldable pub run_alone : Topology → List LanePlan → RunView
-run_alone t lanes = plain_run (record { topology = t; pages = []; answers = [] }) lanes
 
 -- the run of a script over a world
 unfoldable pub run_over : World → Script → RunView

@@ -1,13 +1,11 @@
 -- The state of a run on one thread.
-use Rattle.std.specs.Prelude.{ℕ, ◌==◌, List, [], map, length, sum_by, count_by, find, Option, Some, None, slice_index_or, slice_set, if◌then◌else◌}
+use Rattle.std.specs.Prelude.{ℕ, ◌==◌, List, [], map, sum_by, count_by, find, Option, Some, None, slice_index_or, slice_set, if◌then◌else◌}
 use Rattle.mp_words.specs.declared.row.Row.{Row}
 use Rattle.mp_words.specs.declared.order.Order.{Order}
 use Rattle.mp_words.specs.declared.op.Op.{Op}
 use Rattle.mp_words.specs.declared.op.Maker.{Maker}
 use Rattle.mp_words.specs.declared.entry.RowEntry.{RowEntry}
 use Rattle.mp_words.specs.declared.flight.Flight.{Flight}
-use Rattle.mp_words.specs.declared.trying.TryEnd.{TryEnd}
-use Rattle.mp_words.specs.declared.trying.Back.{Back}
 use Rattle.mp_words.specs.Order.{slots_of}
 use Rattle.mp_words.specs.Request.{Tried, Asked}
 use Rattle.mp_words.specs.Effect.{free_row, row_after, clears_of, cleared}

@@ -1,8 +1,8 @@
 -- Which lane runs what, turn by turn.
 use Rattle.std.specs.Prelude.{ℕ, ◌+◌, max, ◌==◌, List, [], ◌∷◌, map, length, fold, slice_get, Option, Some, None, if◌then◌else◌}
 use Rattle.std.specs.List.{enumerate_from, range_with_len, flat_map}
-use Rattle.mp_run.specs.declared.script.Numbered1.{Numbered1}
-use Rattle.mp_run.specs.declared.script.LanePlan.{LanePlan}
+use Rattle.mp_script.specs.declared.script.Numbered1.{Numbered1}
+use Rattle.mp_script.specs.declared.script.LanePlan.{LanePlan}
 
 -- a turn of a lane: one of its lines, or its end
 pub record Turn : Type 0 where

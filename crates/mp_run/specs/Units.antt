@@ -1,11 +1,11 @@
 -- The units that calls need and use, and which lanes are spent.
-use Rattle.std.specs.Prelude.{ℕ, zero, suc, ◌+◌, ◌-◌, Bool, true, false, not, ◌==◌, nat_lt, List, [], ◌∷◌, map, filter, length, replicate, count_by, position, slice_index_or, slice_set, is_none, Option, Some, None, Result, Ok, Err, if◌then◌else◌}
+use Rattle.std.specs.Prelude.{ℕ, zero, suc, ◌+◌, ◌-◌, Bool, true, false, nat_lt, List, [], ◌∷◌, map, length, replicate, count_by, position, slice_index_or, slice_set, is_none, Option, Some, None, Result, Ok, Err, if◌then◌else◌}
 use Rattle.std.specs.List.{list_any}
 use Rattle.mp_record.specs.declared.event.Event.{Event}
 use Rattle.mp_record.specs.declared.event.Event.TheVariants.{Sec, At, Try, Fin}
 use Rattle.mp_record.specs.declared.event.Said.TheVariants as said
-use Rattle.mp_run.specs.declared.script.Numbered1.{Numbered1}
-use Rattle.mp_run.specs.declared.script.LanePlan.{LanePlan}
+use Rattle.mp_script.specs.declared.script.Numbered1.{Numbered1}
+use Rattle.mp_script.specs.declared.script.LanePlan.{LanePlan}
 use Rattle.mp_run.specs.PlainState.{State}
 use Rattle.mp_run.specs.PlainCall.{Inputs, Call, submit, finish, change, add, remove, set_policy, reap, call}
 use Rattle.mp_run.specs.PlainLine.{Start, turn_start, place_of, opens, flights_of}

@@ -1,45 +1,203 @@
-//! Runs the lines of one lane, and its end.
+//! The state of a run, and its calls.
 
-ghost use Rattle.std.specs.Prelude.{◌≡◌, ◌++◌, ◌∷◌, [], ◌<◌, ◌≤◌, ◌+◌, ◌^◌, OnOk, IfOk, Some, None, map, length, drop, take, vec_len, slice_get};
-ghost use Rattle.mp_words.specs.Request.{asked_of};
+ghost use Rattle.std.specs.Prelude.{◌≡◌, ◌≤◌, ◌<◌, ◌^◌, ℕ, true, false, [], ◌∷◌, IfOk, OnOk, Some, None, length, map, take, zip, replicate, slice_index_or};
+ghost use Rattle.std.specs.List.{list_any};
+ghost use Rattle.mp_words.specs.declared.trying.Outcome.TheVariants as outcome;
+ghost use Rattle.mp_words.specs.declared.row.Policy.TheVariants as policy;
 ghost use Rattle.mp_record.specs.declared.event.Event.TheVariants as event;
-ghost use Rattle.mp_record.specs.declared.event.Said.TheVariants as said;
-ghost use Rattle.mp_run.specs.PlainLine.{turn_step};
-ghost use Rattle.mp_run.specs.OneLane.{inputs_of};
-ghost use Rattle.mp_run.specs.Distinct.{IsDistinct};
-ghost use Rattle.mp_run.specs.Landing.{landed_all, fin_of};
-ghost use Rattle.mp_run.specs.Engine.{Fly, state_with, Runs, InOrder, AreSimple, IsOn, submits_of, turns_with};
-ghost use Rattle.mp_run.specs.Ready.{IsReading, Sends, sent_to};
+ghost use Rattle.mp_words.specs.Effect.{free_row};
+ghost use Rattle.mp_words.specs.Row.{is_available};
+ghost use Rattle.mp_words.specs.Request.{Asked};
+ghost use Rattle.mp_policy.specs.PathTable as table;
+ghost use Rattle.mp_run.specs.PlainState.{paths_of};
+ghost use Rattle.mp_run.specs.PlainSubmit.{submitted, end_of, choice_by, after_try};
+ghost use Rattle.mp_run.specs.PlainFinish.{finished};
+ghost use Rattle.mp_run.specs.PlainLine.{flights_of};
+ghost use Rattle.mp_run.specs.Stepped.{each};
+ghost use Rattle.mp_run.specs.Drain.{is_sent};
+ghost use Rattle.mp_run.specs.Numbers.{has_req, standing, has_flight};
+ghost use Rattle.mp_run.specs.Engine.{state_of, IsReady, Does, AreSent};
 
 use crate::error::RunError;
-use crate::lane::{Lane, land_all};
-use crate::script::{Line, Numbered1};
+use crate::flights::Flights;
+use crate::opening::free_row;
+use crate::requests::Requests;
 use mp_policy::choice::numa;
-use mp_record::event::{Event, Said};
+use mp_record::event::Event;
 use mp_record::notes::LaneNotes;
-use mp_topology::topology::Topology;
 use mp_words::flight::Flight;
+use mp_words::near::Near;
 use mp_words::note::Note;
 use mp_words::numbers::{LaneId, Node, ReqId, Slot};
+use mp_words::order::Order;
 use mp_words::reading::Reading;
-use mp_words::request::Request;
+use mp_words::row::Row;
 use mp_words::trying::{Try, TryEnd};
 use std::alloc::Global;
 
-/// The version of each path's row, since no row of this engine ever changes.
-const OPENING_VERSION: u32 = 0;
-
-/// The first lane.
-fn first_lane() -> LaneId
-    ensures { result ≡ 0 }
-{
-    LaneId::make(0).unwrap()
+/// The state of a run: the rows by slot, the list of paths, the flights of each lane, the waiting requests, and the
+/// requests in the order submitted. The drain is lane 16.
+#[derive(Drop)]
+pub struct Engine {
+    pub rows: Vec<Row>,
+    pub order: Order,
+    pub flights: Vec<Flights>,
+    pub waiting: Vec<ReqId>,
+    pub requests: Requests,
 }
 
-/// The note of a section of the first lane of which nothing is told yet but the reading.
-fn blank_note(reading: &Reading) -> Note {
+impl Engine {
+    /// What a choice reads.
+    fn reading(&self) -> Reading
+        requires ready { IsReady (state_of self.now) }
+        ensures within { result.len ≤ 8 }
+        ensures paths { table.paths_of result ≡ paths_of (state_of self.now) }
+    {
+        Reading {
+            len: self.order.len,
+            slots: self.order.slots,
+            rows: rows_read(&self.rows, &self.order.slots, self.order.len),
+        }
+    }
+
+    /// How a try from a node ends.
+    fn end_from(&self, reading: &Reading, node: Node, near: &Near) -> TryEnd
+        requires ready { IsReady (state_of self.now) }
+        requires within { reading.now.len ≤ 8 }
+        requires paths { table.paths_of reading.now ≡ paths_of (state_of self.now) }
+        ensures { result ≡ end_of (state_of self.now) (choice_by self.now.order.policy near.now (state_of self.now) node) }
+    {
+        match numa(reading, node, near) {
+            Some(slot) => TryEnd::Sent(slot, self.rows[slot.get() as usize].version),
+            None => {
+                if any_available(&self.rows, &self.order.slots, self.order.len) {
+                    TryEnd::Listed
+                } else {
+                    TryEnd::Failed
+                }
+            }
+        }
+    }
+
+    /// Puts a request where its try sent it: on its way, or to those that wait.
+    fn put(&mut self, lane: LaneId, req: ReqId, end: TryEnd) -> Result<(), RunError>
+        requires ready { IsReady (state_of self.old) }
+        requires apart { has_flight req (flights_of lane (state_of self.old)) ≡ false }
+        ensures leaves { (a : Asked) → a.req ≡ req → OnOk result (state_of self.new ≡ after_try lane (state_of self.old) a end) }
+        ensures ready { OnOk result (IsReady (state_of self.new)) }
+    {
+        match end {
+            TryEnd::Sent(slot, version) => {
+                let flights = &mut self.flights[lane.get() as usize];
+                flights.push(Flight {
+                    slot,
+                    version,
+                    req,
+                    lane,
+                })?;
+            }
+            TryEnd::Listed => self.waiting.push(req)?,
+            TryEnd::Failed => (),
+        }
+        Ok(())
+    }
+
+    /// Makes a try of a request that waits, and notes it: the request is sent, listed or failed. Answers whether it
+    /// was sent.
+    pub fn submit(
+        &mut self,
+        notes: &mut LaneNotes,
+        near: &Near,
+        lane: LaneId,
+        req: ReqId,
+    ) -> Result<bool, RunError>
+        requires ready { IsReady (state_of self.old) }
+        requires there { has_req req self.old.requests ≡ true }
+        requires waiting { standing req self.old.requests ≡ outcome.Waiting }
+        requires apart { has_flight req (flights_of lane (state_of self.old)) ≡ false }
+        ensures does { OnOk result (Does (submitted near.now lane (state_of self.old) req) (state_of self.new) notes.old.events notes.new.events) }
+        ensures sent { IfOk result (λ sent. sent ≡ list_any is_sent (submitted near.now lane (state_of self.old) req).events) }
+        ensures ready { OnOk result (IsReady (state_of self.new)) }
+    {
+        let reading = self.reading();
+        let node = self.requests.node(req);
+        let end = self.end_from(&reading, node, near);
+        let hop = self.requests.next_hop(req)?;
+        notes.reserve(1)?;
+        self.requests
+            .tried(req, open_try(hop, end, blank_note(lane, &reading)))?;
+        self.put(lane, req, end)?;
+        notes.push(Event::Try { req, hop, end });
+        Ok(was_sent(&end))
+    }
+
+    /// Ends a flight, of which each attempt has status 0, and notes it.
+    fn finish(&mut self, notes: &mut LaneNotes, flight: Flight) -> Result<(), RunError>
+        requires ready { IsReady (state_of self.old) }
+        requires sent { standing flight.req self.old.requests ≡ outcome.Sent }
+        ensures does { (lane : ℕ) → OnOk result (Does (finished [] lane (state_of self.old) flight) (state_of self.new) notes.old.events notes.new.events) }
+        ensures ready { OnOk result (IsReady (state_of self.new)) }
+    {
+        let hop = self.requests.last_hop(flight.req)?;
+        notes.reserve(1)?;
+        self.requests.ended(flight.req, [0; 6], 1, None);
+        let flights = &mut self.flights[flight.lane.get() as usize];
+        flights.land(flight.req);
+        notes.push(Event::Fin {
+            req: flight.req,
+            hop,
+            statuses: [0; 6],
+            count: 1,
+            back: None,
+        });
+        Ok(())
+    }
+
+    /// Ends these flights in turn.
+    pub fn finish_each(&mut self, notes: &mut LaneNotes, flights: &[Flight]) -> Result<(), RunError>
+        requires ready { IsReady (state_of self.old) }
+        requires sent { AreSent self.old.requests flights.now }
+        ensures does { (lane : ℕ) → OnOk result (Does (each (finished [] lane) (state_of self.old) flights.now) (state_of self.new) notes.old.events notes.new.events) }
+        ensures ready { OnOk result (IsReady (state_of self.new)) }
+    {
+        for flight in flights {
+            self.finish(notes, *flight)?;
+        }
+        Ok(())
+    }
+}
+
+/// The rows of the listed slots, in list order.
+fn rows_read(rows: &[Row], slots: &[Slot; 8], len: u8) -> [Row; 8]
+    requires all { 15 ≤ length rows.now }
+    requires within { len ≤ 8 }
+    ensures { map table.path_of (take len (zip slots.now result)) ≡ map (λ slot. record { slot = slot; row = slice_index_or rows.now slot (free_row 0) }) (take len slots.now) }
+{
+    let mut read = [free_row(); 8];
+    for place in 0..usize::from(len) {
+        read[place] = rows[slots[place].get() as usize];
+    }
+    read
+}
+
+/// Whether the row of some listed slot is available.
+fn any_available(rows: &[Row], slots: &[Slot; 8], len: u8) -> bool
+    requires all { 15 ≤ length rows.now }
+    requires within { len ≤ 8 }
+    ensures { result ≡ list_any (λ slot. is_available (slice_index_or rows.now slot (free_row 0))) (take len slots.now) }
+{
+    let mut found = false;
+    for place in 0..usize::from(len) {
+        let row = rows[slots[place].get() as usize];
+        found = found || row.available();
+    }
+    found
+}
+
+/// The note of a section of which nothing is told yet but the reading.
+fn blank_note(lane: LaneId, reading: &Reading) -> Note {
     Note {
-        lane: first_lane(),
+        lane,
         side: 0,
         ticket: 0,
         order: None,
@@ -50,144 +208,23 @@ fn blank_note(reading: &Reading) -> Note {
     }
 }
 
-/// A request that is sent to a slot at once.
-fn sent_request(
-    alloc: Global,
-    req: ReqId,
-    node: Node,
-    slot: Slot,
-    note: Note,
-) -> Result<Request, RunError>
-    ensures { IfOk result (λ r. asked_of r ≡ sent_to req node slot) }
+/// Whether a try was sent.
+fn was_sent(end: &TryEnd) -> bool
+    ensures { (req hop : ℕ) → result ≡ is_sent (event.Try req hop end.now) }
 {
-    let mut request = Request::make(alloc, req, node);
-    request.reserve()?;
-    request.tried(Try {
-        hop: 1,
-        end: TryEnd::Sent(slot, OPENING_VERSION),
+    matches!(end, TryEnd::Sent(_, _))
+}
+
+/// A try whose attempts are still to come.
+fn open_try(hop: u32, end: TryEnd, note: Note) -> Try
+    ensures { result ≡ record { hop = hop; end = end; note = note; statuses = replicate 6 0; count = 0; back = None } }
+{
+    Try {
+        hop,
+        end,
         note,
         statuses: [0; 6],
         count: 0,
         back: None,
-    });
-    Ok(request)
-}
-
-/// Submits a request, which is sent.
-fn submit(
-    lane: &mut Lane,
-    alloc: Global,
-    topology: &Topology,
-    reading: &Reading,
-    number: u32,
-    req: ReqId,
-    node: Node,
-) -> Result<(), RunError>
-    requires { IsReading topology.now reading.now }
-    ensures { OnOk result (Sends topology.now number req node lane.old lane.new) }
-{
-    let Some(slot) = numa(reading, node, &topology.near) else {
-        unreachable!()
-    };
-    let request = sent_request(alloc, req, node, slot, blank_note(reading))?;
-    lane.notes.reserve(2)?;
-    lane.flights.push(Flight {
-        slot,
-        version: OPENING_VERSION,
-        req,
-        lane: first_lane(),
-    })?;
-    lane.requests.push(request)?;
-    lane.notes.push(Event::At {
-        line: number,
-        said: Said::Submit,
-    });
-    lane.notes.push(Event::Try {
-        req,
-        hop: 1,
-        end: TryEnd::Sent(slot, OPENING_VERSION),
-    });
-    Ok(())
-}
-
-/// Finishes all flights, by a line or, where the number is 0, at the lane's end.
-fn finish(lane: &mut Lane, number: u32) -> Result<(), RunError>
-    requires count { vec_len lane.old.flights < 2 ^ 32 }
-    requires within { lane.old.landed ≤ vec_len lane.old.requests }
-    requires fly { Fly lane.old.flights.items (drop lane.old.landed (map asked_of lane.old.requests.items)) }
-    ensures noted { OnOk result (lane.new.notes.events ≡ lane.old.notes.events ++ event.At number (said.Finish (length lane.old.flights.items)) ∷ map fin_of lane.old.flights.items) }
-    ensures flights { OnOk result (lane.new.flights.items ≡ []) }
-    ensures requests { OnOk result (map asked_of lane.new.requests.items ≡ take lane.old.landed (map asked_of lane.old.requests.items) ++ landed_all lane.old.flights.items (drop lane.old.landed (map asked_of lane.old.requests.items))) }
-    ensures landed { OnOk result (lane.new.landed ≡ vec_len lane.new.requests) }
-{
-    let count = lane.flights.len();
-    lane.notes.reserve(count + 1)?;
-    lane.notes.push(Event::At {
-        line: number,
-        said: Said::Finish(count as u32),
-    });
-    land_all(
-        &mut lane.notes,
-        &mut lane.requests,
-        &lane.flights,
-        lane.landed,
-    );
-    lane.landed = lane.requests.len();
-    lane.flights.clear();
-    Ok(())
-}
-
-/// Runs the line at a place.
-fn run_line(
-    lane: &mut Lane,
-    alloc: Global,
-    topology: &Topology,
-    reading: &Reading,
-    lines: &[Numbered1],
-    place: usize,
-) -> Result<(), RunError>
-    requires there { place < length lines.now }
-    requires few { length lines.now ≤ 65536 }
-    requires simple { AreSimple lines.now }
-    requires reading { IsReading topology.now reading.now }
-    requires order { InOrder lane.old.landed lane.old.flights.items lane.old.requests.items (submits_of (drop place lines.now)) }
-    requires count { vec_len lane.old.flights ≤ place }
-    ensures ran { OnOk result (Runs (turn_step (inputs_of topology.now) 0 (state_with topology.now lane.old.flights.items lane.old.requests.items) (slice_get lines.now place)) (state_with topology.now lane.new.flights.items lane.new.requests.items) lane.old.notes.events lane.new.notes.events) }
-    ensures order { OnOk result (InOrder lane.new.landed lane.new.flights.items lane.new.requests.items (submits_of (drop (place + 1) lines.now))) }
-    ensures count { OnOk result (vec_len lane.new.flights ≤ place + 1) }
-{
-    let numbered = lines[place];
-    let number = numbered.number;
-    let line = numbered.line;
-    match line {
-        Line::Submit(req, node) => submit(lane, alloc, topology, reading, number, req, node),
-        Line::FinishAll => finish(lane, number),
-        _ => unreachable!(),
     }
-}
-
-/// Runs the lines of a lane, and then its end.
-pub fn run_lane(
-    alloc: Global,
-    topology: &Topology,
-    reading: &Reading,
-    lines: &[Numbered1],
-) -> Result<Lane, RunError>
-    requires few { length lines.now ≤ 65536 }
-    requires simple { AreSimple lines.now }
-    requires distinct { IsDistinct (submits_of lines.now) }
-    requires reading { IsReading topology.now reading.now }
-    ensures { IfOk result (λ lane. IsOn topology.now (turns_with lines.now) [] (state_with topology.now lane.flights.items lane.requests.items) lane.notes.events) }
-{
-    let mut lane = Lane {
-        notes: LaneNotes::make(alloc),
-        flights: Vec::new(alloc),
-        requests: Vec::new(alloc),
-        landed: 0,
-    };
-    for place in 0..lines.len() {
-        run_line(&mut lane, alloc, topology, reading, lines, place)?;
-    }
-    finish(&mut lane, 0)?;
-    Ok(lane)
 }

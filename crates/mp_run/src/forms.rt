@@ -4,7 +4,7 @@ ghost use Rattle.std.specs.Prelude.{◌≡◌, option_map, map, string_bytes};
 ghost use Rattle.mp_run.specs.Forms.{bound_in, option_form, pages_form, form_of};
 ghost use Rattle.mp_run.specs.FormsView.{told_form};
 
-use crate::digits::number;
+use mp_checks::digits::number_of;
 
 /// The greatest ANA group identifier that there can be.
 const MOST_GROUPS: u64 = 4_294_967_295;
@@ -32,7 +32,7 @@ pub(crate) enum Form<'w> {
 fn bound(digits: &[u8]) -> Option<u32>
     ensures { result ≡ bound_in digits.now }
 {
-    let bound = number(digits)?;
+    let bound = number_of(digits)?;
     if 1 <= bound && bound <= MOST_GROUPS {
         Some(bound as u32)
     } else {

@@ -3,8 +3,6 @@
 ghost use Rattle.std.specs.Prelude.{◌≡◌, ◌∷◌, [], ◌<◌, ◌≤◌, ◌++◌, IfOk, OnOk, map, length, take};
 ghost use Rattle.std.specs.List.{enumerate_from};
 ghost use Rattle.mp_words.specs.Request.{asked_of};
-ghost use Rattle.mp_record.specs.declared.event.Event.TheVariants as event;
-ghost use Rattle.mp_record.specs.declared.event.Said.TheVariants as said;
 ghost use Rattle.mp_words.specs.declared.op.Maker.TheVariants as maker;
 ghost use Rattle.mp_words.specs.declared.entry.KeepEntry.TheVariants as keep;
 ghost use Rattle.mp_run.specs.Opening.{opening_entry};
@@ -14,8 +12,6 @@ ghost use Rattle.std.specs.Ordering.{nat_cmp};
 ghost use Rattle.mp_run.specs.Gathered.{alone, first_entry, told};
 
 use crate::error::RunError;
-use mp_record::event::{Event, Said};
-use mp_record::notes::LaneNotes;
 use mp_words::entry::{KeepEntry, OrderEntry, RowEntry};
 use mp_words::numbered::Numbered;
 use mp_words::numbers::Slot;
@@ -69,19 +65,6 @@ pub fn keeping(alloc: Global, order: Order) -> Result<Items<KeepEntry>, RunError
         by: Maker::Start,
     });
     Ok(Items::from_slice(alloc, &[entry])?)
-}
-
-/// The events of a drain with nothing to do: one round over the empty list.
-pub fn idle_drain(alloc: Global) -> Result<LaneNotes, RunError>
-    ensures { IfOk result (λ notes. notes.events ≡ event.At 0 (said.Requeue 0) ∷ []) }
-{
-    let mut notes = LaneNotes::make(alloc);
-    notes.reserve(1)?;
-    notes.push(Event::At {
-        line: 0,
-        said: Said::Requeue(0),
-    });
-    Ok(notes)
 }
 
 /// Puts a request at its number.

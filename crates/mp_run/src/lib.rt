@@ -3,18 +3,21 @@
 
 pub mod cases;
 pub mod class;
-mod digits;
+mod drain;
 mod engine;
 pub mod error;
+mod flights;
 mod forms;
 mod gather;
 mod help;
-mod lane;
+mod index;
+pub mod laws;
+mod lines;
 mod opening;
 mod reading;
-mod run;
-pub mod script;
-mod script_reading;
+mod requests;
+pub mod run;
 pub mod status;
 mod texts;
 pub mod top;
+mod turns;

@@ -1,18 +1,23 @@
-//! The state with which a run begins, where every controller is live and without ANA.
+//! The state with which a run begins.
 
-ghost use Rattle.std.specs.Prelude.{◌≡◌, ◌≢◌, ◌<◌, ◌≤◌, ◌++◌, [], IfOk, OnOk, map, length, slice_get, vec_len, take, replicate, All};
-ghost use Rattle.mp_words.specs.Effect.{free_row};
-ghost use Rattle.mp_topology.specs.Facts.{IsTopology, IsBuilt};
+ghost use Rattle.std.specs.Prelude.{◌≡◌, ◌<◌, ◌≤◌, ◌++◌, [], IfOk, OnOk, Some, map, length, slice_get, vec_len, take, replicate, unwrap_or, All};
+ghost use Rattle.std.specs.List.{range_with_len};
+ghost use Rattle.mp_words.specs.Effect.{free_row, given_row};
+ghost use Rattle.mp_page.specs.Page.{page_in};
+ghost use Rattle.mp_words.specs.Order.{order_of};
+ghost use Rattle.mp_page.specs.Gifts as gifts;
 ghost use Rattle.mp_run.specs.Opening as plain;
-ghost use Rattle.mp_run.specs.OneLane.{inputs_of};
+ghost use Rattle.mp_run.specs.Inputs.{inputs_of};
 ghost use Rattle.mp_run.specs.OpeningSlots.{slot_before};
-ghost use Rattle.mp_run.specs.Ready.{IsReading};
+ghost use Rattle.mp_run.specs.World.{IsWorld};
 
 use crate::error::RunError;
+use mp_page::{PageError, changing, read_page, state_for};
+use mp_script::script::World;
 use mp_topology::topology::Topology;
 use mp_words::numbers::{Ctrl, Slot};
+use mp_words::op::Gift;
 use mp_words::order::Order;
-use mp_words::reading::Reading;
 use mp_words::row::{CState, Row};
 use std::alloc::Global;
 
@@ -20,7 +25,7 @@ use std::alloc::Global;
 const SLOTS: usize = 15;
 
 /// The row of a free slot.
-fn free_row() -> Row
+pub fn free_row() -> Row
     ensures { result ≡ free_row 0 }
 {
     Row {
@@ -36,36 +41,114 @@ fn free_row() -> Row
     }
 }
 
-/// The row of a controller's opening path.
-fn opening_row(topology: &Topology, ctrl: Ctrl) -> Row
-    requires built { IsBuilt topology.now }
-    requires there { ctrl < length topology.now.controllers }
-    ensures { result ≡ plain.opening_row (inputs_of topology.now) ctrl (slice_get topology.now.controllers ctrl) }
+/// What a path of a controller without ANA begins with.
+fn plain_gift(ctrl: Ctrl) -> Gift
+    ensures { result ≡ gifts.plain_gift ctrl }
 {
-    let controllers = topology.controllers.as_slice();
-    let controller = &controllers[ctrl.get() as usize];
-    Row {
-        version: 0,
+    Gift {
         ctrl,
-        cstate: controller.state,
+        ana: false,
         state: 1,
         pending: false,
-        ready: true,
         armed: false,
-        marked: false,
-        ana: false,
     }
 }
 
-/// The rows of these opening paths.
-fn rows_of(alloc: Global, topology: &Topology, opening: &[Ctrl]) -> Result<Vec<Row>, RunError>
-    requires built { IsBuilt topology.now }
-    requires there { All (λ ctrl. ctrl < length topology.now.controllers) opening.now }
-    ensures { IfOk result (λ rows. rows.items ≡ map (λ ctrl. plain.opening_row (inputs_of topology.now) ctrl (slice_get topology.now.controllers ctrl)) opening.now) }
+/// What a path with ANA begins with: in the state that is stated, else inaccessible and pending.
+fn stated_gift(ctrl: Ctrl, armed: bool, stated: Option<u8>) -> Gift
+    ensures { result ≡ gifts.stated_gift ctrl armed stated }
+{
+    let (state, pending) = match stated {
+        Some(state) => (state, false),
+        None => (3, true),
+    };
+    Gift {
+        ctrl,
+        ana: true,
+        state,
+        pending,
+        armed,
+    }
+}
+
+/// What an opening path with ANA begins with, by the bytes of its page. A refused page counts as an empty one.
+fn gift_in(alloc: Global, topology: &Topology, ctrl: Ctrl, bytes: &[u8]) -> Result<Gift, RunError>
+    requires { length bytes.now ≤ 65536 }
+    ensures { IfOk result (λ gift. gift ≡ gifts.gift_of topology.now.nsid ctrl (Some (plain.page_or_empty (page_in topology.now.anagrpmax bytes.now)))) }
+{
+    match read_page(alloc, bytes, topology.anagrpmax) {
+        Ok(page) => Ok(stated_gift(ctrl, changing(&page), state_for(&page, topology.nsid))),
+        Err(PageError::NoMemory) => Err(RunError::NoMemory),
+        Err(_) => Ok(stated_gift(ctrl, false, None)),
+    }
+}
+
+/// What an opening path with ANA begins with, by the page in a box. A box that isn't there counts as an empty page.
+fn boxed_gift(alloc: Global, world: &World, ctrl: Ctrl, number: u32) -> Result<Gift, RunError>
+    requires world { IsWorld world.now }
+    ensures { IfOk result (λ gift. gift ≡ gifts.gift_of world.now.topology.nsid ctrl (Some (plain.page_or_empty (gifts.page_at (inputs_of world.now).pages number)))) }
+{
+    let boxes = world.pages.as_slice();
+    let number = number as usize;
+    if number < boxes.len() {
+        gift_in(alloc, &world.topology, ctrl, boxes[number].as_slice())
+    } else {
+        Ok(stated_gift(ctrl, false, None))
+    }
+}
+
+/// The row of an opening path whose controller is in this state.
+fn row_of(gift: Gift, cstate: CState) -> Row
+    ensures { result ≡ record (given_row 0 gift) { cstate = cstate } }
+{
+    Row {
+        version: 0,
+        ctrl: gift.ctrl,
+        cstate,
+        state: gift.state,
+        pending: gift.pending,
+        ready: true,
+        armed: gift.armed,
+        marked: false,
+        ana: gift.ana,
+    }
+}
+
+/// The number of the box with a controller's page.
+fn box_of(page: Option<u32>) -> u32
+    ensures { result ≡ unwrap_or page 0 }
+{
+    match page {
+        Some(number) => number,
+        None => 0,
+    }
+}
+
+/// The row of a controller's opening path.
+fn opening_row(alloc: Global, world: &World, ctrl: Ctrl) -> Result<Row, RunError>
+    requires world { IsWorld world.now }
+    requires there { ctrl < length world.now.topology.controllers }
+    ensures { IfOk result (λ row. row ≡ plain.opening_row (inputs_of world.now) ctrl (slice_get world.now.topology.controllers ctrl)) }
+{
+    let controllers = world.topology.controllers.as_slice();
+    let controller = &controllers[ctrl.get() as usize];
+    if controller.ana {
+        let gift = boxed_gift(alloc, world, ctrl, box_of(controller.page))?;
+        Ok(row_of(gift, controller.state))
+    } else {
+        Ok(row_of(plain_gift(ctrl), controller.state))
+    }
+}
+
+/// The rows of the opening paths.
+fn rows_of(alloc: Global, world: &World, opening: &[Ctrl]) -> Result<Vec<Row>, RunError>
+    requires world { IsWorld world.now }
+    requires there { All (λ ctrl. ctrl < length world.now.topology.controllers) opening.now }
+    ensures { IfOk result (λ rows. rows.items ≡ map (λ ctrl. plain.opening_row (inputs_of world.now) ctrl (slice_get world.now.topology.controllers ctrl)) opening.now) }
 {
     let mut rows = Vec::new(alloc);
     for ctrl in opening {
-        rows.push(opening_row(topology, *ctrl))?;
+        rows.push(opening_row(alloc, world, *ctrl)?)?;
     }
     Ok(rows)
 }
@@ -82,12 +165,11 @@ fn fill_up(rows: &mut Vec<Row>) -> Result<(), RunError>
 }
 
 /// The rows by slot.
-pub fn opening_rows(alloc: Global, topology: &Topology) -> Result<Vec<Row>, RunError>
-    requires topology { IsTopology topology.now }
-    requires built { IsBuilt topology.now }
-    ensures { IfOk result (λ rows. rows.items ≡ plain.opening_rows (inputs_of topology.now)) }
+pub fn opening_rows(alloc: Global, world: &World) -> Result<Vec<Row>, RunError>
+    requires world { IsWorld world.now }
+    ensures { IfOk result (λ rows. rows.items ≡ plain.opening_rows (inputs_of world.now)) }
 {
-    let mut rows = rows_of(alloc, topology, topology.opening.as_slice())?;
+    let mut rows = rows_of(alloc, world, world.topology.opening.as_slice())?;
     fill_up(&mut rows)?;
     Ok(rows)
 }
@@ -106,8 +188,8 @@ fn slot_at(place: u32, len: usize) -> Slot
 
 /// The list of the opening: the first slots, in order.
 pub fn opening_order(topology: &Topology) -> Order
-    requires { IsTopology topology.now }
-    ensures { result ≡ (plain.opening (inputs_of topology.now)).order }
+    requires { length topology.now.opening ≤ 8 }
+    ensures { result ≡ order_of 0 topology.now.policy (range_with_len 0 (length topology.now.opening)) }
 {
     let len = topology.opening.len();
     Order {
@@ -123,23 +205,6 @@ pub fn opening_order(topology: &Topology) -> Order
             slot_at(5, len),
             slot_at(6, len),
             slot_at(7, len),
-        ],
-    }
-}
-
-/// What a choice reads of the opening.
-pub fn opening_reading(topology: &Topology, order: &Order, rows: &[Row]) -> Reading
-    requires topology { IsTopology topology.now }
-    requires built { IsBuilt topology.now }
-    requires order { order.now ≡ (plain.opening (inputs_of topology.now)).order }
-    requires rows { rows.now ≡ plain.opening_rows (inputs_of topology.now) }
-    ensures { IsReading topology.now result }
-{
-    Reading {
-        len: order.len,
-        slots: order.slots,
-        rows: [
-            rows[0], rows[1], rows[2], rows[3], rows[4], rows[5], rows[6], rows[7],
         ],
     }
 }

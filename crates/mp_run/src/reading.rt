@@ -4,18 +4,19 @@ ghost use Rattle.std.specs.Prelude.{◌≡◌, ◌≤◌, ℕ, Some, Ok, Err, If
 ghost use Rattle.mp_io.specs.Causes.{Rose};
 ghost use Rattle.mp_io.specs.Files.{Files};
 ghost use Rattle.mp_page.specs.Boxes.{boxes_in};
-ghost use Rattle.mp_run.specs.Outcome.{read_of, topology_or, boxes_or, script_or, Gives, IsReadStatus, IsTextStatus};
-ghost use Rattle.mp_run.specs.Built.{IsScript};
-ghost use Rattle.mp_run.specs.ScriptText.{script_in};
+ghost use Rattle.mp_run.specs.Outcome.{read_of, topology_or, boxes_or, script_or, fits_in, Gives, IsReadStatus, IsTextStatus};
+ghost use Rattle.mp_script.specs.Facts as scripts;
+ghost use Rattle.mp_script.specs.Script.{script_in};
 ghost use Rattle.mp_topology.specs.Topology.{topology_in};
 ghost use Rattle.mp_topology.specs.Facts.{IsTopology, IsBuilt};
 
-use crate::script::Script;
-use crate::script_reading::read_script;
-use crate::status::{ScriptError, Status};
+use crate::status::Status;
 use mp_io::errors::ReadError;
 use mp_io::folder::Folder;
 use mp_page::{BoxError, read_boxes};
+use mp_script::errors::ScriptError;
+use mp_script::reading::read_script;
+use mp_script::script::Script;
 use mp_topology::errors::TopologyError;
 use mp_topology::reading::read_topology;
 use mp_topology::topology::Topology;
@@ -76,14 +77,33 @@ pub(crate) fn boxes_of(alloc: Global, bytes: &[u8]) -> Result<Items<Items<u8>>, 
     }
 }
 
-/// The script of a text.
-pub(crate) fn script_of(alloc: Global, bytes: &[u8], nodes: u8) -> Result<Script, Status>
-    requires { nodes ≤ 8 }
-    ensures exact { Gives (λ s. s) result (script_or (script_in nodes bytes.now)) }
+/// Checks that the page of each controller is among so many boxes.
+pub(crate) fn check_fits(topology: &Topology, boxes: usize) -> Result<(), Status>
+    requires { IsTopology topology.now }
+    ensures exact { Gives (λ u. u) result (topology_or (fits_in topology.now boxes)) }
     ensures refused { IfErr result IsTextStatus }
-    ensures built { IfOk result IsScript }
 {
-    match read_script(alloc, bytes, nodes) {
+    match topology.fits(boxes) {
+        Ok(()) => Ok(()),
+        Err(refusal) => Err(Status::Topology(refusal)),
+    }
+}
+
+/// The script of a text, over a topology and so many boxes.
+pub(crate) fn script_of(
+    alloc: Global,
+    bytes: &[u8],
+    topology: &Topology,
+    boxes: usize,
+) -> Result<Script, Status>
+    requires bytes { length bytes.now ≤ 16777216 }
+    requires topology { IsTopology topology.now }
+    ensures exact { Gives (λ s. s) result (script_or (script_in topology.now boxes bytes.now)) }
+    ensures refused { IfErr result IsTextStatus }
+    ensures read { IfOk result scripts.IsScript }
+    ensures built { IfOk result scripts.IsBuilt }
+{
+    match read_script(alloc, bytes, topology, boxes) {
         Ok(script) => Ok(script),
         Err(ScriptError::NoMemory) => Err(Status::NoMemory),
         Err(refusal) => Err(Status::Script(refusal)),

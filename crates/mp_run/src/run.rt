@@ -1,137 +1,213 @@
 //! Runs a script on one thread.
 
-ghost use Rattle.std.specs.Prelude.{◌≡◌, ◌∷◌, [], IfOk, map, length};
-ghost use Rattle.mp_topology.specs.Facts.{IsTopology, IsBuilt};
-ghost use Rattle.mp_record.specs.RunView.{view_of, events_of};
+ghost use Rattle.std.specs.Prelude.{◌≡◌, ◌≤◌, ◌++◌, ℕ, true, [], IfOk, OnOk, length, map, position, replicate, vec_len};
 ghost use Rattle.mp_words.specs.Request.{asked_of};
-ghost use Rattle.mp_run.specs.Gathered.{IsGathered};
-ghost use Rattle.mp_run.specs.OneLane.{inputs_of};
-ghost use Rattle.mp_run.specs.PlainRun.{run_alone, run_over};
-ghost use Rattle.mp_run.specs.Built.{IsScript, AreLanes, IsLane};
+ghost use Rattle.mp_record.specs.RunView.{view_of, events_of};
 ghost use Rattle.mp_run.specs.Opening as plain;
-ghost use Rattle.mp_run.specs.Ready.{IsReading};
+ghost use Rattle.mp_run.specs.World.{IsWorld};
+ghost use Rattle.mp_script.specs.Facts.{IsScript, IsBuilt, submits_in};
+ghost use Rattle.mp_script.specs.Distinct.{IsDistinct};
+ghost use Rattle.mp_run.specs.Engine.{state_of, IsReady};
+ghost use Rattle.mp_run.specs.Inputs.{inputs_of};
+ghost use Rattle.mp_run.specs.LaneTurns.{turn_of, turns_submits};
+ghost use Rattle.mp_run.specs.OnTurns.{AreSimpleTurns, IsOn};
+ghost use Rattle.mp_run.specs.PlainLine.{flights_of};
+ghost use Rattle.mp_run.specs.Quiet.{IsQuiet, closes};
+ghost use Rattle.mp_run.specs.Told.{IsOver, AreNumbered};
+ghost use Rattle.mp_run.specs.Numbers.{has_req};
+ghost use Rattle.mp_checks.specs.Marks.{has};
+ghost use Rattle.std.specs.List.{AllByRecursion};
+ghost use Rattle.mp_run.specs.PlainRun.{by_number, run_over};
+ghost use Rattle.mp_run.specs.Sound.{IsSound};
+ghost use Rattle.mp_run.specs.Turns.{turns_of};
 
-use crate::engine::run_lane;
+use crate::engine::Engine;
 use crate::error::RunError;
-use crate::gather::{histories, idle_drain, keeping, numbered};
-use crate::lane::Lane;
-use crate::opening::{opening_order, opening_reading, opening_rows};
-use crate::script::{LanePlan, Script, World};
-use mp_record::event::{Event, Said};
+use crate::flights::Flights;
+use crate::gather::{histories, keeping, numbered};
+use crate::opening::{opening_order, opening_rows};
+use crate::requests::Requests;
+use crate::turns::{LaneTurn, lane_of, turns};
+use mp_record::event::Event;
 use mp_record::notes::LaneNotes;
 use mp_record::run::Run;
-use mp_topology::topology::Topology;
-use mp_words::order::Order;
+use mp_script::script::{LanePlan, Script, World};
+use mp_words::entry::{KeepEntry, RowEntry};
+use mp_words::numbers::LaneId;
 use mp_words::request::Request;
-use mp_words::row::Row;
 use sqlite_items::Items;
 use std::alloc::Global;
 
-/// A run of these parts, in which no row and no list changes.
-fn gathered(
-    alloc: Global,
-    topology: &Topology,
-    rows: &[Row],
-    order: Order,
-    lanes: Items<LaneNotes>,
-    requests: Vec<Request>,
-) -> Result<Run, RunError>
-    requires rows { rows.now ≡ plain.opening_rows (inputs_of topology.now) }
-    requires order { order ≡ (plain.opening (inputs_of topology.now)).order }
-    ensures { IfOk result (λ run. IsGathered topology.now (map events_of lanes) (map asked_of requests.items) run) }
-{
-    Ok(Run {
-        nsid: topology.nsid,
-        keeper: None,
-        rows: histories(alloc, rows)?,
-        keeping: keeping(alloc, order)?,
-        lanes,
-        drain: idle_drain(alloc)?,
-        requests: numbered(alloc, requests)?,
-    })
-}
+/// The number of lanes, with that of the drain.
+const LANES: usize = 17;
 
-/// The run of no lane.
-#[tactic(auto, unfolding(crate::specs::PlainRun::run_alone))]
-fn run_nothing(alloc: Global, topology: &Topology) -> Result<Run, RunError>
-    requires topology { IsTopology topology.now }
-    requires built { IsBuilt topology.now }
-    ensures { IfOk result (λ run. view_of run ≡ run_alone topology.now []) }
+/// Lanes in which nothing flies.
+fn no_flights(alloc: Global) -> Result<Vec<Flights>, RunError>
+    ensures { IfOk result (λ lanes. lanes.items ≡ replicate 17 []) }
 {
-    let rows = opening_rows(alloc, topology)?;
-    let order = opening_order(topology);
-    gathered(
-        alloc,
-        topology,
-        &rows,
-        order,
-        Items::new(alloc),
-        Vec::new(alloc),
-    )
-}
-
-/// The list of one lane's notes.
-fn one_lane(alloc: Global, notes: LaneNotes) -> Result<Items<LaneNotes>, RunError>
-    ensures { IfOk result (λ lanes. map events_of lanes ≡ notes.events ∷ []) }
-{
-    // The proof of a push needs each type inside notes named here.
-    let _: Option<Event> = None;
-    let mut lanes = Items::new(alloc);
-    lanes.push(notes)?;
+    let mut lanes = Vec::new(alloc);
+    for lane in 0..LANES {
+        lanes.push(Flights::make(alloc))?;
+    }
     Ok(lanes)
 }
 
-/// The run of one lane.
-fn run_plan(alloc: Global, topology: &Topology, plan: &LanePlan) -> Result<Run, RunError>
-    requires topology { IsTopology topology.now }
-    requires built { IsBuilt topology.now }
-    requires lane { IsLane plan.now }
-    ensures { IfOk result (λ run. view_of run ≡ run_alone topology.now (plan.now ∷ [])) }
+/// The state with which a run begins.
+fn start(alloc: Global, world: &World) -> Result<Engine, RunError>
+    requires world { IsWorld world.now }
+    ensures { IfOk result (λ engine. state_of engine ≡ plain.opening (inputs_of world.now)) }
 {
-    let rows = opening_rows(alloc, topology)?;
-    let order = opening_order(topology);
-    let reading = opening_reading(topology, &order, &rows);
-    let lane = run_lane(alloc, topology, &reading, plan.lines.as_slice())?;
-    let Lane {
-        notes,
-        flights: _,
-        requests,
-        landed: _,
-    } = lane;
-    let lanes = one_lane(alloc, notes)?;
-    gathered(alloc, topology, &rows, order, lanes, requests)
+    Ok(Engine {
+        rows: opening_rows(alloc, world)?,
+        order: opening_order(&world.topology),
+        flights: no_flights(alloc)?,
+        waiting: Vec::new(alloc),
+        requests: Requests::make(alloc),
+    })
 }
 
-/// The run of these lanes.
-fn run_plans(alloc: Global, topology: &Topology, plans: &[LanePlan]) -> Result<Run, RunError>
-    requires topology { IsTopology topology.now }
-    requires built { IsBuilt topology.now }
-    requires lanes { AreLanes plans.now }
-    ensures { IfOk result (λ run. view_of run ≡ run_alone topology.now plans.now) }
+/// Takes these turns, and notes each in its lane.
+fn take_turns(
+    engine: &mut Engine,
+    alloc: Global,
+    world: &World,
+    lanes: &mut Vec<LaneNotes>,
+    turns: &[LaneTurn],
+) -> Result<(), RunError>
+    requires ready { IsReady (state_of engine.old) }
+    requires sound { IsSound (state_of engine.old) [] }
+    requires turns { AreSimpleTurns (vec_len lanes.old) (map turn_of turns.now) }
+    requires fresh { IsDistinct (map (λ a. a.req) engine.old.requests ++ turns_submits (map turn_of turns.now)) }
+    requires quiet { IsQuiet (state_of engine.old) }
+    ensures on { OnOk result (IsOn (inputs_of world.now) (map turn_of turns.now) [] (state_of engine.old) (state_of engine.new) (map events_of lanes.old.items) (map events_of lanes.new.items)) }
+    ensures ready { OnOk result (IsReady (state_of engine.new)) }
+    ensures sound { OnOk result (IsSound (state_of engine.new) []) }
+    ensures lanes { OnOk result (vec_len lanes.new ≡ vec_len lanes.old) }
+    ensures quiet { OnOk result ((lane : ℕ) → closes lane true (map turn_of turns.now) ≡ true → flights_of lane (state_of engine.new) ≡ []) }
+    ensures numbers { OnOk result (map (λ a. a.req) engine.new.requests ≡ map (λ a. a.req) engine.old.requests ++ turns_submits (map turn_of turns.now)) }
 {
-    match plans {
-        [] => run_nothing(alloc, topology),
-        [plan] => run_plan(alloc, topology, plan),
-        _ => unreachable!(),
+    for turn in turns {
+        let notes = &mut lanes[turn.lane.get() as usize];
+        engine.take_turn(alloc, notes, world, *turn)?;
     }
+    Ok(())
 }
 
-/// The run of a script that can be run so far, over a topology alone.
-fn run_script(alloc: Global, topology: &Topology, script: &Script) -> Result<Run, RunError>
-    requires topology { IsTopology topology.now }
-    requires built { IsBuilt topology.now }
-    requires script { IsScript script.now }
-    ensures { IfOk result (λ run. view_of run ≡ run_alone topology.now script.now.lanes) }
+/// Notes of so many lanes, of which none says anything yet.
+fn blank_lanes(alloc: Global, count: usize) -> Result<Vec<LaneNotes>, RunError>
+    ensures { IfOk result (λ lanes. map events_of lanes.items ≡ replicate count []) }
 {
-    run_plans(alloc, topology, script.lanes.as_slice())
+    // The proof of a push needs each type inside notes named here.
+    let _: Option<Event> = None;
+    let mut lanes = Vec::new(alloc);
+    for lane in 0..count {
+        lanes.push(LaneNotes::make(alloc))?;
+    }
+    Ok(lanes)
+}
+
+/// Runs all lanes by turns.
+fn run_lanes(
+    engine: &mut Engine,
+    alloc: Global,
+    world: &World,
+    script: &Script,
+) -> Result<Vec<LaneNotes>, RunError>
+    requires ready { IsReady (state_of engine.old) }
+    requires sound { IsSound (state_of engine.old) [] }
+    requires first { engine.old.requests ≡ [] }
+    requires quiet { IsQuiet (state_of engine.old) }
+    requires script { IsScript script.now }
+    requires built { IsBuilt script.now }
+    ensures on { IfOk result (λ lanes. IsOn (inputs_of world.now) (turns_of script.now.lanes) [] (state_of engine.old) (state_of engine.new) (replicate (length script.now.lanes) []) (map events_of lanes.items)) }
+    ensures count { IfOk result (λ lanes. vec_len lanes ≡ length script.now.lanes) }
+    ensures ready { OnOk result (IsReady (state_of engine.new)) }
+    ensures sound { OnOk result (IsSound (state_of engine.new) []) }
+    ensures quiet { OnOk result (IsQuiet (state_of engine.new)) }
+    ensures numbers { OnOk result (map (λ a. a.req) engine.new.requests ≡ turns_submits (turns_of script.now.lanes)) }
+{
+    let plans = script.lanes.as_slice();
+    let mut lanes = blank_lanes(alloc, plans.len())?;
+    let turns = turns(alloc, plans)?;
+    take_turns(engine, alloc, world, &mut lanes, &turns)?;
+    Ok(lanes)
+}
+
+/// The keeper's lane, where there is one.
+fn keeper_of(plans: &[LanePlan]) -> Option<LaneId>
+    requires { length plans.now ≤ 16 }
+    ensures { result ≡ position (λ plan. plan.keeper) plans.now }
+{
+    for (place, plan) in plans.iter().enumerate() {
+        if plan.keeper {
+            return Some(lane_of(place));
+        }
+    }
+    None
+}
+
+/// The requests of a run that is over, by number.
+fn requests_of(alloc: Global, engine: Engine) -> Result<Items<Request>, RunError>
+    ensures { IfOk result (λ requests. map asked_of requests ≡ by_number engine.requests) }
+{
+    let Engine {
+        rows: _,
+        order: _,
+        flights: _,
+        waiting: _,
+        requests,
+    } = engine;
+    numbered(alloc, requests.into_vec())
+}
+
+/// A run of these parts, in which no row and no list changed.
+fn gathered(
+    alloc: Global,
+    world: &World,
+    script: &Script,
+    rows: Items<Items<RowEntry>>,
+    keeping: Items<KeepEntry>,
+    lanes: Vec<LaneNotes>,
+    drain: LaneNotes,
+    engine: Engine,
+) -> Result<Run, RunError>
+    requires { length script.now.lanes ≤ 16 }
+    ensures { IfOk result (λ run. view_of run ≡ record { keeper = position (λ plan. plan.keeper) script.now.lanes; rows = rows; keeping = keeping; lanes = map events_of lanes.items; drain = drain.events; requests = by_number engine.requests }) }
+{
+    let requests = requests_of(alloc, engine)?;
+    Ok(Run {
+        nsid: world.topology.nsid,
+        keeper: keeper_of(script.lanes.as_slice()),
+        rows,
+        keeping,
+        lanes: Items::from_vec(lanes),
+        drain,
+        requests,
+    })
 }
 
 /// The run of a script on one thread.
+///
+/// # Errors
+///
+/// `NoMemory` where memory runs out.
 pub fn run(alloc: Global, world: &World, script: &Script) -> Result<Run, RunError>
-    requires topology { IsTopology world.now.topology }
-    requires built { IsBuilt world.now.topology }
+    requires world { IsWorld world.now }
     requires script { IsScript script.now }
-    ensures { IfOk result (λ run. view_of run ≡ run_over world.now script.now) }
+    requires built { IsBuilt script.now }
+    ensures exact { IfOk result (λ run. view_of run ≡ run_over world.now script.now) }
+
+    // The requests are those that the script submits. They stand by number, each once, and each is done, failed or
+    // listed, and not on its way.
+    ensures asked { (req : ℕ) → IfOk result (λ run. has_req req (map asked_of run.requests) ≡ has (submits_in script.now.lanes) req) }
+    ensures numbered { IfOk result (λ run. AreNumbered (map asked_of run.requests)) }
+    ensures over { IfOk result (λ run. AllByRecursion IsOver (map asked_of run.requests)) }
 {
-    run_script(alloc, &world.topology, script)
+    let mut engine = start(alloc, world)?;
+    let rows = histories(alloc, &engine.rows)?;
+    let keeping = keeping(alloc, engine.order)?;
+    let lanes = run_lanes(&mut engine, alloc, world, script)?;
+    let mut drain = LaneNotes::make(alloc);
+    engine.drain(alloc, &mut drain, world)?;
+    gathered(alloc, world, script, rows, keeping, lanes, drain, engine)
 }

@@ -1,17 +1,8 @@
 //! How a call of the program ends.
 
 use mp_page::BoxError;
+use mp_script::errors::ScriptError;
 use mp_topology::errors::TopologyError;
-use thiserror::Error;
-
-/// Why a script isn't run.
-#[derive(Clone, Copy, Debug, Error)]
-pub enum ScriptError {
-    #[error("line {0} asks for what can't be run yet")]
-    NotBuilt(u32),
-    #[error("out of memory")]
-    NoMemory,
-}
 
 /// How a call of the program ends.
 #[derive(Clone, Copy)]

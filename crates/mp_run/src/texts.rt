@@ -3,30 +3,30 @@
 ghost use Rattle.std.specs.Prelude.{◌≡◌, ◌≢◌, ◌≤◌, ℕ, Some, Ok, Err, IfOk, IfSome, IfErr, All, length};
 ghost use Rattle.mp_io.specs.Causes.{Rose};
 ghost use Rattle.mp_io.specs.Files.{Files};
-ghost use Rattle.mp_run.specs.Built.{IsScript};
+ghost use Rattle.mp_run.specs.World.{IsWorld};
+ghost use Rattle.mp_script.specs.Facts as scripts;
 ghost use Rattle.mp_run.specs.FormsView.{names_of, told_form};
 ghost use Rattle.mp_run.specs.Outcome.{read_of, boxes_or, serial_text, serial_for, serial_in, pages_for, pages_in, text_in, own_text, Gives, AreReadBefore, IsReadStatus, IsRunStatus, IsTextStatus};
 ghost use Rattle.mp_page.specs.Boxes.{boxes_in};
 ghost use Rattle.mp_run.specs.Help.{help_text, version_text};
-ghost use Rattle.mp_topology.specs.Facts.{IsTopology, IsBuilt};
 
 use crate::forms::{Form, Names};
 use crate::help::{help, version};
-use crate::reading::{boxes_of, read_file, script_of, topology_of};
+use crate::reading::{boxes_of, check_fits, read_file, script_of, topology_of};
 use crate::run::run;
-use crate::script::{Script, World};
 use crate::status::Status;
 use mp_io::folder::Folder;
 use mp_page::page_text;
 use mp_record::text::run_text;
+use mp_script::script::{Script, World};
 use std::alloc::Global;
 
 /// The text of a run.
 #[tactic(auto, unfolding(crate::specs::Outcome::serial_text))]
 fn text_of_run(alloc: Global, world: &World, script: &Script) -> Result<Vec<u8>, Status>
-    requires topology { IsTopology world.now.topology }
-    requires built { IsBuilt world.now.topology }
-    requires script { IsScript script.now }
+    requires world { IsWorld world.now }
+    requires script { scripts.IsScript script.now }
+    requires built { scripts.IsBuilt script.now }
     ensures exact { IfOk result (λ text. text.items ≡ serial_text world.now script.now) }
     ensures refused { IfErr result (λ status. status ≡ Status.NoMemory) }
 {
@@ -47,13 +47,15 @@ fn text_of_files(
     boxes: Vec<u8>,
     script: Vec<u8>,
 ) -> Result<Vec<u8>, Status>
-    requires { length boxes.items ≤ 16777216 }
+    requires boxes { length boxes.items ≤ 16777216 }
+    requires script { length script.items ≤ 16777216 }
     ensures exact { Gives (λ text. text.items) result (serial_for topology.items boxes.items script.items) }
     ensures refused { IfErr result IsTextStatus }
 {
     let topology = topology_of(alloc, &topology)?;
     let pages = boxes_of(alloc, &boxes)?;
-    let script = script_of(alloc, &script, topology.near.nodes)?;
+    check_fits(&topology, pages.len())?;
+    let script = script_of(alloc, &script, &topology, pages.len())?;
     let world = World { topology, pages };
     let text = text_of_run(alloc, &world, &script)?;
     Ok(text)

@@ -33,7 +33,7 @@ pub record Passes (t : Members) : Type 0 where
   pub controllers : AllPass (controllers_checks (nodes_of t) t)
   pub opening : AllPass (opening_checks (names_of t) t)
   pub pages : AllPass (opening_page_checks (controllers_of t) (opening_of (names_of t) t))
-  pub built : AllPass (built_checks (policy_of t) (opening_of (names_of t) t) t)
+  pub built : AllPass (built_checks (policy_of t))
 
 pub passes : (t : Members) → first_fault (checks t) ≡ None → Passes t
 passes t h =

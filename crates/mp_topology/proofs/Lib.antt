@@ -5,6 +5,7 @@ pub mod EachController
 pub mod EachOpening
 pub mod Filled
 pub mod Gives
+pub mod Readable
 pub mod Unless
 pub mod Passing
 pub mod Facts

@@ -1,7 +1,6 @@
 -- What holds of each topology that is read.
-use Rattle.std.specs.Prelude.{◌≡◌, ◌≢◌, ◌<◌, ◌≤◌, true, false, [], length, None, IfSome, IsSome, All, HoldsAt}
+use Rattle.std.specs.Prelude.{◌≡◌, ◌≢◌, ◌<◌, ◌≤◌, true, length, IfSome, IsSome, All, HoldsAt}
 use Rattle.std.specs.List.{AllPairs}
-use Rattle.mp_words.specs.declared.row.CState.TheVariants.{Live}
 use Rattle.mp_words.specs.declared.row.Policy.TheVariants.{Numa}
 use Rattle.mp_topology.specs.Controllers.{is_name}
 use Rattle.mp_topology.specs.declared.topology.Controller.{Controller}
@@ -29,14 +28,6 @@ pub record IsTopology (t : Topology) : Type 0 where
   pub opening_paged : All (λ p. HoldsAt IsPaged t.controllers p) t.opening
   pub pages : All (λ c. IfSome c.page (λ p. p < 1024)) t.controllers
 
--- a controller as the program can run it so far
-pub record IsPlain (c : Controller) : Type 0 where
-  pub ana : c.ana ≡ false
-  pub state : c.state ≡ Live
-  pub page : c.page ≡ None
-
 -- a topology as the program can run it so far
 pub record IsBuilt (t : Topology) : Type 0 where
   pub policy : t.policy ≡ Numa
-  pub opening : t.opening ≢ []
-  pub controllers : All IsPlain t.controllers

@@ -6,5 +6,7 @@ pub mod Controllers
 pub mod Opening
 pub mod Near
 pub mod Topology
+pub mod Names
+pub mod Readable
 pub mod Facts
 pub mod Fits

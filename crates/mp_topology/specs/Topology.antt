@@ -1,16 +1,15 @@
 -- The topology that a table is, and the checks of the table in their order.
-use Rattle.std.specs.Prelude.{◌≡◌, IsUtf8, ℕ, Bool, true, false, ◌&&◌, not, ◌==◌, if◌then◌else◌, is_some, List, [], ◌∷◌, ◌++◌, length, codes, Option, Some, None, Result, Err, option_and_then, unwrap_or}
-use Rattle.std.specs.List.{list_all}
+use Rattle.std.specs.Prelude.{◌≡◌, IsUtf8, ℕ, Bool, true, false, if◌then◌else◌, is_some, List, [], ◌∷◌, ◌++◌, codes, Option, Some, None, Result, Err, option_and_then, unwrap_or}
 use Rattle.std.specs.Str.{bytes_eq, is_utf8}
-use Rattle.toml.specs.Data.{Data, Members}
+use Rattle.toml.specs.Data.{Members}
 use Rattle.toml.specs.Parse.{parse_document}
 use Rattle.mp_checks.specs.Checks.{first_fault, if_there}
 use Rattle.mp_words.specs.declared.row.Policy.{Policy}
 use Rattle.mp_words.specs.declared.row.Policy.TheVariants.{Numa, RoundRobin, QueueDepth}
-use Rattle.mp_topology.specs.Fields.{at, is_missing, integer_at, text_at, number_of, optional_of, number_checks, optional_checks}
+use Rattle.mp_topology.specs.Fields.{at, integer_at, text_at, number_of, optional_of, number_checks, optional_checks}
 use Rattle.mp_topology.specs.Unless.{value_unless}
 use Rattle.mp_topology.specs.Distance.{distance_checks, distances_of}
-use Rattle.mp_topology.specs.Controllers.{fields_of, controller_items, controllers_checks, controllers_of, names_of}
+use Rattle.mp_topology.specs.Controllers.{controllers_checks, controllers_of, names_of}
 use Rattle.mp_topology.specs.Opening.{opening_checks, opening_of, opening_page_checks}
 use Rattle.mp_topology.specs.Near.{near_of}
 use Rattle.mp_topology.specs.declared.errors.Field.TheVariants as field
@@ -69,15 +68,8 @@ is_numa Numa = true
 is_numa RoundRobin = false
 is_numa QueueDepth = false
 
--- a controller without a word on ANA, its state or its page
-unfoldable pub is_plain : Data → Bool
-is_plain d = is_missing (codes "ana") (fields_of d) && is_missing (codes "state") (fields_of d) && is_missing (codes "page") (fields_of d)
-
-unfoldable pub is_built : Policy → List ℕ → Members → Bool
-is_built policy opening t = is_numa policy && is_missing (codes "group") t && not (length opening == 0) && list_all is_plain (controller_items t)
-
-unfoldable pub built_checks : Policy → List ℕ → Members → List (Bool × TopologyError)
-built_checks policy opening t = (is_built policy opening t, errors.NotBuilt) ∷ []
+unfoldable pub built_checks : Policy → List (Bool × TopologyError)
+built_checks policy = (is_numa policy, errors.NotBuilt) ∷ []
 
 -- ---- the whole
 
@@ -93,7 +85,7 @@ checks t =
     ++ (controllers_checks (nodes_of t) t
     ++ (opening_checks (names_of t) t
     ++ (opening_page_checks (controllers_of t) (opening_of (names_of t) t)
-    ++ built_checks (policy_of t) (opening_of (names_of t) t) t))))))))
+    ++ built_checks (policy_of t)))))))))
 
 -- the topology that a table is, where no check fails
 abbrev pub topology_of : Members → Topology

@@ -53,8 +53,8 @@ pub enum TopologyError {
     /// Memory ran out.
     #[error("out of memory")]
     NoMemory,
-    /// The topology is one that the program can't run yet.
-    #[error("the program can't run such a topology yet")]
+    /// The policy is one that the program can't run yet.
+    #[error("the program can't run such a policy yet")]
     NotBuilt,
 }
 

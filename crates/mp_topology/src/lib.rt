@@ -7,6 +7,8 @@ mod distance;
 pub mod errors;
 mod fields;
 mod fits;
+pub mod laws;
+pub mod names;
 mod near;
 mod opening;
 pub mod reading;

@@ -97,7 +97,7 @@ fn topology_of(alloc: Global, table: &Table) -> Result<Topology, TopologyError>
     let controllers = controllers_in(alloc, nodes, table)?;
     let opening = opening_in(alloc, controllers.as_slice(), table)?;
     check_pages(controllers.as_slice(), opening.as_slice())?;
-    check_built(policy, opening.as_slice(), table)?;
+    check_built(policy)?;
     let near = Near {
         nodes: nodes as u8,
         distance,
@@ -120,8 +120,8 @@ fn topology_of(alloc: Global, table: &Table) -> Result<Topology, TopologyError>
 ///
 /// `NotToml` where the bytes are no text of a table. Of a table, the first of its checks that fails: `Field` where a
 /// needed field is missing or one has another type, `Range` where its value is none of those allowed, `Duplicate` at a
-/// name's second place, `Limit` at an overlong list. `NotBuilt` where all pass and the program can't run it yet.
-/// `NoMemory` where memory runs out.
+/// name's second place, `Limit` at an overlong list. `NotBuilt` where all pass and the policy isn't `numa`: the
+/// program can't run the others yet. `NoMemory` where memory runs out.
 pub fn read_topology(alloc: Global, bytes: &[u8]) -> Result<Topology, TopologyError>
     // Of a table: the topology where no check fails, else the refusal of the first check that does.
     ensures table { (t : Members) → IsTable bytes.now t → Reads TopologyError.NoMemory result (checks t) (topology_of t) }

@@ -1,9 +1,7 @@
 use crate::errors::{Field, Place, TopologyError};
 use crate::reading::read_topology;
-use crate::topology::{Controller, Topology};
-use mp_words::name::Name;
+use crate::topology::Topology;
 use mp_words::row::{CState, Policy};
-use sqlite_items::Items;
 use std::alloc::Global;
 use std::process::Abort;
 use std::test::*;
@@ -49,21 +47,42 @@ fn is_refused(read: Result<Topology, TopologyError>, want: (&str, &str, u32)) ->
     }
 }
 
+const SIXTY_FIVE: &str = "controllers = [{},{},{},{},{},{},{},{},{},{},{},{},{},\
+    {},{},{},{},{},{},{},{},{},{},{},{},{},{},{},{},{},{},{},{},{},{},{},{},{},{},\
+    {},{},{},{},{},{},{},{},{},{},{},{},{},{},{},{},{},{},{},{},{},{},{},{},{},{}]\n";
+
 /// In place of what, what stands there, and how it is refused.
-const REFUSED: [(&str, &str, (&str, &str, u32)); 40] = [
+const REFUSED: [(&str, &str, (&str, &str, u32)); 50] = [
     ("nsid = 1\n", "", ("Field", "nsid", 0)),
     ("nsid = 1\n", "nsid = \"1\"\n", ("Field", "nsid", 0)),
     ("nsid = 1\n", "nsid = 1.0\n", ("Field", "nsid", 0)),
+    ("nsid = 1\n", "nsid = true\n", ("Field", "nsid", 0)),
     ("nsid = 1\n", "nsid = 0\n", ("Range", "nsid", 0)),
+    ("nsid = 1\n", "nsid = -1\n", ("Range", "nsid", 0)),
     ("nsid = 1\n", "nsid = 4294967295\n", ("Range", "nsid", 0)),
     (
         "nsid = 1\n",
         "nsid = 9223372036854775808\n",
         ("NotToml", "", 0),
     ),
+    ("anagrpmax = 4\n", "", ("Field", "anagrpmax", 0)),
+    (
+        "anagrpmax = 4\n",
+        "anagrpmax = 4294967296\n",
+        ("Range", "anagrpmax", 0),
+    ),
+    (
+        "nodes = 2",
+        "group = true\nnodes = 2",
+        ("Field", "group", 0),
+    ),
+    ("nodes = 2", "group = 0\nnodes = 2", ("Range", "group", 0)),
     ("nodes = 2", "group = 5\nnodes = 2", ("Range", "group", 0)),
+    ("policy = \"numa\"\n", "", ("Field", "policy", 0)),
     ("\"numa\"", "\"latency\"", ("Range", "policy", 0)),
     ("nodes = 2", "nodes = 9", ("Range", "nodes", 0)),
+    ("nodes = 2", "nodes = 0", ("Range", "nodes", 0)),
+    ("[[10, 20], [20, 10]]", "10", ("Field", "distance", 0)),
     ("[20, 10]]", "[20]]", ("Range", "distance", 1)),
     (", [20, 10]]", "]", ("Range", "distance", 2)),
     (", [20, 10]]", ", [20, 10], 1]", ("Range", "distance", 2)),
@@ -74,37 +93,11 @@ const REFUSED: [(&str, &str, (&str, &str, u32)); 40] = [
         "[[0, 20], 1]",
         ("Range", "distance", 0),
     ),
-    ("name = \"b\"", "name = \"a\"", ("Duplicate", "name", 1)),
-    ("name = \"b\"", "name = \"B\"", ("Range", "name", 1)),
-    (
-        "name = \"b\"",
-        "name = \"a0123456789-_xyz0\"",
-        ("Range", "name", 1),
-    ),
-    ("node = 1\n", "node = 2\n", ("Range", "node", 1)),
-    ("node = 1\n", "ana = 1\n", ("Field", "ana", 1)),
-    ("node = 1\n", "state = 1\n", ("Field", "state", 1)),
-    ("node = 1\n", "state = \"asleep\"\n", ("Range", "state", 1)),
-    ("node = 1\n", "page = 1024\n", ("Range", "page", 1)),
-    ("[\"a\", \"b\"]", "[\"a\", \"x\"]", ("Range", "opening", 1)),
-    (
-        "[\"a\", \"b\"]",
-        "[\"a\", \"a\"]",
-        ("Duplicate", "opening", 1),
-    ),
-    ("[\"a\", \"b\"]", "[\"a\", 1]", ("Field", "opening", 1)),
-    ("[\"a\", \"b\"]", "\"a\"", ("Field", "opening", 0)),
-    (
-        "[\"a\", \"b\"]",
-        "[1, 2, 3, 4, 5, 6, 7, 8, 9]",
-        ("Limit", "opening", 0),
-    ),
-    ("node = 1\n", "ana = true\n", ("Field", "page", 1)),
-    ("node = 0\n", "ana = true\n", ("Field", "page", 0)),
+    (CONTROLLERS, "", ("Field", "controllers", 0)),
     (
         CONTROLLERS,
-        "controllers = []\n",
-        ("Range", "controllers", 0),
+        "controllers = 1\n",
+        ("Field", "controllers", 0),
     ),
     (
         CONTROLLERS,
@@ -113,16 +106,43 @@ const REFUSED: [(&str, &str, (&str, &str, u32)); 40] = [
     ),
     (
         CONTROLLERS,
-        "controllers = 1\n",
-        ("Field", "controllers", 0),
+        "controllers = []\n",
+        ("Range", "controllers", 0),
     ),
-    (CONTROLLERS, "", ("Field", "controllers", 0)),
+    (CONTROLLERS, SIXTY_FIVE, ("Limit", "controllers", 0)),
+    ("name = \"b\"\n", "", ("Field", "name", 1)),
+    ("name = \"b\"", "name = \"\"", ("Range", "name", 1)),
+    ("name = \"b\"", "name = \"B\"", ("Range", "name", 1)),
+    (
+        "name = \"b\"",
+        "name = \"a0123456789-_xyz0\"",
+        ("Range", "name", 1),
+    ),
+    ("name = \"b\"", "name = \"a\"", ("Duplicate", "name", 1)),
+    ("node = 1\n", "node = \"1\"\n", ("Field", "node", 1)),
+    ("node = 1\n", "node = 2\n", ("Range", "node", 1)),
+    ("node = 1\n", "ana = 1\n", ("Field", "ana", 1)),
+    ("node = 1\n", "state = 1\n", ("Field", "state", 1)),
+    ("node = 1\n", "state = \"asleep\"\n", ("Range", "state", 1)),
+    ("node = 1\n", "page = 0.0\n", ("Field", "page", 1)),
+    ("node = 1\n", "page = 1024\n", ("Range", "page", 1)),
+    ("opening = [\"a\", \"b\"]\n", "", ("Field", "opening", 0)),
+    ("[\"a\", \"b\"]", "\"a\"", ("Field", "opening", 0)),
+    (
+        "[\"a\", \"b\"]",
+        "[1, 2, 3, 4, 5, 6, 7, 8, 9]",
+        ("Limit", "opening", 0),
+    ),
+    ("[\"a\", \"b\"]", "[\"a\", 1]", ("Field", "opening", 1)),
+    ("[\"a\", \"b\"]", "[\"a\", \"x\"]", ("Range", "opening", 1)),
+    (
+        "[\"a\", \"b\"]",
+        "[\"a\", \"a\"]",
+        ("Duplicate", "opening", 1),
+    ),
+    ("node = 1\n", "ana = true\n", ("Field", "page", 1)),
     ("\"numa\"", "\"round-robin\"", ("NotBuilt", "", 0)),
-    ("nodes = 2", "group = 1\nnodes = 2", ("NotBuilt", "", 0)),
-    ("[\"a\", \"b\"]", "[]", ("NotBuilt", "", 0)),
-    ("node = 1\n", "ana = false\n", ("NotBuilt", "", 0)),
-    ("node = 1\n", "state = \"live\"\n", ("NotBuilt", "", 0)),
-    ("node = 1\n", "page = 0\n", ("NotBuilt", "", 0)),
+    ("\"numa\"", "\"queue-depth\"", ("NotBuilt", "", 0)),
 ];
 
 #[test]
@@ -133,6 +153,58 @@ fn refuses(rt: HostRuntime) {
     for (old, new, want) in REFUSED {
         assert!(rt;
             is_refused(read_with(&rt, alloc, old, new), want),
+            "{old} as {new}"
+        );
+    }
+}
+
+/// Every key that may be missing, and a controller with ANA that doesn't open and so needs no page.
+const FULL: &str =
+    "nsid = 4294967294\nanagrpmax = 4294967295\ngroup = 7\npolicy = \"numa\"\nnodes = 2\n\
+    distance = [[1, 255], [255, 1]]\nopening = [\"b\"]\nother = 1\n\
+    [[controllers]]\nname = \"a\"\nana = true\n\
+    [[controllers]]\nname = \"b0123456789-_xyz\"\nnode = 1\nana = true\nstate = \"deleting-noio\"\npage = 1023\n\
+    [[controllers]]\nname = \"b\"\nana = false\nstate = \"live\"\n";
+
+#[test]
+fn reads_every_field(rt: HostRuntime) -> Result<(), Fail> {
+    let read = read_topology(rt.alloc(), FULL.as_bytes());
+    let found = read.ok().ok_or("a topology")?;
+    assert_eq!(rt;
+        (found.nsid, found.anagrpmax, found.group),
+        (4294967294, 4294967295, 7)
+    );
+    let opening = found.opening.as_slice();
+    assert_eq!(rt; opening.len(), 1);
+    assert_eq!(rt; opening[0].get(), 2);
+    let controllers = found.controllers.as_slice();
+    assert_eq!(rt; controllers.len(), 3);
+    assert!(rt; controllers[0].ana && controllers[0].page.is_none());
+    assert!(rt; controllers[0].node.is_none());
+    assert!(rt; matches!(controllers[0].state, CState::Live));
+    assert_eq!(rt; controllers[1].name.as_str(), "b0123456789-_xyz");
+    assert_eq!(rt; controllers[1].node.map(|node| node.get()), Some(1));
+    assert!(rt; controllers[1].ana && controllers[1].page == Some(1023));
+    assert!(rt; matches!(controllers[1].state, CState::DeletingNoio));
+    assert!(rt; !controllers[2].ana && controllers[2].page.is_none());
+    Ok(())
+}
+
+/// What may stand there in place of what.
+const ACCEPTED: [(&str, &str); 6] = [
+    ("nsid", "\u{feff}nsid"),
+    ("nodes = 2", "group = 4\nnodes = 2"),
+    ("[\"a\", \"b\"]", "[]"),
+    ("node = 1\n", "ana = false\n"),
+    ("node = 1\n", "state = \"dead\"\n"),
+    ("node = 1\n", "ana = true\npage = 0\n"),
+];
+
+#[test]
+fn accepts(rt: HostRuntime) {
+    for (old, new) in ACCEPTED {
+        assert!(rt;
+            read_with(&rt, rt.alloc(), old, new).is_ok(),
             "{old} as {new}"
         );
     }
@@ -161,26 +233,13 @@ fn reads(rt: HostRuntime) -> Result<(), Fail> {
     Ok(())
 }
 
-fn controller(rt: &impl Abort, alloc: Global, name: &str, page: Option<u32>) -> Controller {
-    let text = String::from_str(alloc, name).expect(rt, "memory");
-    Controller {
-        name: Name::from_string(text),
-        node: None,
-        ana: false,
-        state: CState::Live,
-        page,
-    }
-}
-
 #[test]
 fn fits(rt: HostRuntime) -> Result<(), Fail> {
     let alloc = rt.alloc();
-    let mut found = read_with(&rt, alloc, "", "").ok().ok_or("a topology")?;
-    let mut controllers = Vec::new(alloc);
-    controllers.push(controller(&rt, alloc, "a", None))?;
-    controllers.push(controller(&rt, alloc, "b", Some(0)))?;
-    controllers.push(controller(&rt, alloc, "c", Some(1)))?;
-    found.controllers = Items::from_vec(controllers);
+    let paged = "name = \"b\"\npage = 0\n[[controllers]]\nname = \"c\"\nana = true\npage = 1\n";
+    let read = read_with(&rt, alloc, "name = \"b\"\nnode = 1\n", paged);
+    let found = read.ok().ok_or("a topology")?;
+    assert_eq!(rt; found.controllers.len(), 3);
     for (boxes, want) in [(0, Some(1)), (1, Some(2)), (2, None)] {
         match found.fits(boxes) {
             Ok(()) => assert!(rt; want.is_none(), "{boxes} boxes"),

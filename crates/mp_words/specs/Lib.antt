@@ -1,5 +1,6 @@
 pub mod Row
 pub mod Near
+pub mod Names
 pub mod Order
 pub mod Effect
 pub mod RequestView

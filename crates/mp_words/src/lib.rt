@@ -5,7 +5,9 @@
 pub mod answers;
 pub mod entry;
 pub mod flight;
+pub mod laws;
 pub mod name;
+pub mod names;
 pub mod near;
 pub mod note;
 pub mod numbered;

@@ -1,6 +1,6 @@
 use Rattle.std.proofs.Common.{◌≡◌, ◌++◌, string_bytes, take, codes}
 use Rattle.std.specs.List.{flat_map}
-use Rattle.mp_record.specs.Words.{status_word}
+use Rattle.mp_words.specs.Names.{status_word}
 use Rattle.mp_record.proofs.words.put_statuses.Given as goal
 
 -- those so far stand in the text, each behind a comma

@@ -1,11 +1,7 @@
-use Rattle.std.proofs.Common.{◌≡◌, ◌++◌, ◌∷◌, ◌+◌, ◌≤◌, [], ℕ, List, length, take, map, get_or, refl, sym, ap, ◌∙◌, arith, zero-add}
+use Rattle.std.proofs.Common.{◌≡◌, ◌++◌, ◌∷◌, ◌+◌, [], length, take, refl, sym, ap, ◌∙◌, arith, zero-add}
 use Rattle.std.proofs.lemmas.List.{take_more, map-append, length-take-le}
 use Rattle.mp_words.specs.declared.row.Row.{Row}
-use Rattle.mp_words.specs.declared.entry.RowEntry.{RowEntry}
-use Rattle.std.specs.List.{enumerate_from}
-use Rattle.mp_run.specs.Opening.{opening_entry}
-use Rattle.mp_run.specs.Gathered.{alone}
-use Rattle.mp_run.proofs.Placed.{enumerate-more}
+use Rattle.mp_run.proofs.TurnLists.{enumerate-more}
 use Rattle.mp_run.proofs.gather.histories.Goals as goal
 
 pub loop-place-preserved : goal.loop-place-preserved

@@ -1,7 +1,5 @@
-use Rattle.std.proofs.Common.{◌≡◌, ◌∙◌, List, ℕ, map, ap, sym}
+use Rattle.std.proofs.Common.{◌∙◌, ℕ, map, ap}
 use Rattle.mp_words.specs.Request.{asked_of, Asked}
-use Rattle.mp_words.specs.RequestView.{RequestView}
-use Rattle.mp_run.specs.PlainRun.{by_number}
 use Rattle.mp_run.proofs.Placed.{values_told}
 use Rattle.mp_run.proofs.gather.numbered.Goals as goal
 

@@ -1,4 +1,4 @@
-use Rattle.std.proofs.Common.{◌≡◌, ◌++◌, ◌∷◌, [], ℕ, List, ◌∙◌, map, ap, sym, refl, arith, length, rules}
+use Rattle.std.proofs.Common.{◌∷◌, [], ℕ, List, ◌∙◌, map, ap, sym, rules}
 use Rattle.std.specs.BTreeMap.{insert_entry}
 use Rattle.std.specs.Ordering.{nat_cmp}
 use Rattle.std.proofs.lemmas.List.{map-append, map-id}
@@ -7,7 +7,6 @@ use Rattle.std.proofs.lemmas.Iterator.Adapters.{YieldsList-from_vec}
 use Rattle.mp_words.specs.Request.{asked_of, Asked}
 use Rattle.mp_words.specs.RequestView.{RequestView}
 use Rattle.mp_run.specs.PlainRun.{entries_of}
-use Rattle.mp_run.specs.Gathered.{told}
 use Rattle.mp_run.proofs.Placed.{entries_of-more}
 use Rattle.mp_run.proofs.gather.placed.Goals as goal
 

@@ -1,4 +1,4 @@
-use Rattle.std.proofs.Common.{map, rules}
+use Rattle.std.proofs.Common.{map}
 use Rattle.std.proofs.lemmas.Iterator.Consumers.{YieldsList-from_rest}
 use Rattle.std.proofs.lemmas.Iterator.{items_from_collect}
 use Rattle.mp_run.proofs.gather.values_of.Goals as goal

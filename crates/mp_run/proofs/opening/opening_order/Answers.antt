@@ -1,4 +1,4 @@
-use Rattle.std.proofs.Common.{◌≡◌, length, refl, sym, ◌∙◌, arith}
+use Rattle.std.proofs.Common.{length, refl}
 use Rattle.std.proofs.lemmas.List.FromFn.{length-range_with_len}
 use Rattle.mp_run.proofs.OpeningSlots.{slots_upto-is}
 use Rattle.mp_run.proofs.opening.opening_order.Goals as goal
@@ -16,6 +16,6 @@ returns c =
       c.slot_at-7.ensures,
       c.slot_at-8.ensures,
       c.len-len.ensures,
-      slots_upto-is n c.requires.opening_most,
+      slots_upto-is n c.requires,
       length-range_with_len 0 n,
     ) refl

@@ -1,0 +1,56 @@
+-- How requests stand.
+use Rattle.std.proofs.Common.{◌≡◌, ℕ, true, false, ◌==◌, List, [], ◌∷◌, inl, inr, None, refl, ap, ◌∙◌, arith}
+use Rattle.std.specs.List.{last_or}
+use Rattle.std.proofs.lemmas.Bool.{cases_Bool}
+use Rattle.std.proofs.lemmas.Bool.Decides.{nat_tests}
+use Rattle.mp_words.specs.declared.flight.Flight.{Flight}
+use Rattle.mp_words.specs.declared.trying.Outcome.TheVariants.{Sent}
+use Rattle.mp_words.specs.Request.{Asked, Tried, outcome_of}
+use Rattle.mp_run.specs.PlainState.{with_tries}
+use Rattle.mp_run.specs.Numbers.{has_req, has_flight, asked_at, standing}
+use Rattle.mp_run.specs.Engine.{AreSent}
+use Rattle.mp_run.proofs.ByNumber.{or_false}
+
+-- a request that was sent is there
+pub sent_there : (req : ℕ) (requests : List Asked) → standing req requests ≡ Sent → has_req req requests ≡ true
+sent_there req [] sent = absurd cc
+sent_there req (a ∷ requests) sent =
+    elim (cases_Bool (a.req == req)) [
+      | inl same_one ↦ rw same_one refl
+      | inr other_one ↦ rw other_one (sent_there req requests (rw other_one at sent))
+    ]
+
+eq_swap : (a b : ℕ) → (a == b) ≡ false → (b == a) ≡ false
+eq_swap a b e = grind (arith, nat_tests)
+
+-- a number that is this one isn't that one
+apart : (n req changed : ℕ) → (n == req) ≡ true → (req == changed) ≡ false → (n == changed) ≡ false
+apart n req changed same other = grind (arith, nat_tests)
+
+-- other requests are as they were
+pub other_asked : (req changed : ℕ) (tries : List Tried) (requests : List Asked) → (req == changed) ≡ false → asked_at req (with_tries changed tries requests) ≡ asked_at req requests
+other_asked req changed tries [] other = refl
+other_asked req changed tries (a ∷ requests) other =
+    elim (cases_Bool (a.req == req)) [
+      | inl same_one ↦ rw (apart a.req req changed same_one other, same_one) refl
+      | inr other_one ↦ elim (cases_Bool (a.req == changed)) [
+        | inl change ↦ rw (change, other_one) (other_asked req changed tries requests other)
+        | inr kept ↦ rw (kept, other_one) (other_asked req changed tries requests other)
+      ]
+    ]
+
+-- the request has its new tries
+pub this_asked : (req : ℕ) (tries : List Tried) (requests : List Asked) → has_req req requests ≡ true → asked_at req (with_tries req tries requests) ≡ record (asked_at req requests) { tries = tries }
+this_asked req tries [] there = absurd cc
+this_asked req tries (a ∷ requests) there =
+    elim (cases_Bool (a.req == req)) [
+      | inl same_one ↦ rw (same_one, same_one) refl
+      | inr other_one ↦ rw (other_one, other_one) (this_asked req tries requests (rw other_one at there))
+    ]
+
+-- the others are sent still
+pub sent_rest : (requests : List Asked) (req : ℕ) (tries : List Tried) (flights : List Flight) → AreSent requests flights → has_flight req flights ≡ false → AreSent (with_tries req tries requests) flights
+sent_rest requests req tries [] sent none = tt
+sent_rest requests req tries (f ∷ flights) sent none =
+    let parts = or_false (f.req == req) (has_flight req flights) none in
+    (ap (λ (a : Asked). outcome_of (last_or None a.tries)) (other_asked f.req req tries requests parts.0) ∙ sent.0, sent.1, sent_rest requests req tries flights sent.2 parts.1)

@@ -1,0 +1,6 @@
+use Rattle.std.proofs.Common.{◌≡◌, take}
+use Rattle.mp_run.specs.Turns as plain
+use Rattle.mp_run.proofs.turns.longest.Given as goal
+
+abbrev pub invariant-loop-plan : goal.invariant-loop-plan
+invariant-loop-plan l = l.longest ≡ plain.longest (take l.plan-index l.plans)

@@ -1,0 +1,14 @@
+pub mod Words
+pub mod Shape
+pub mod Named
+pub mod Places
+pub mod Before
+pub mod Lines
+pub mod Plans
+pub mod Script
+pub mod Distinct
+pub mod Facts
+pub mod Answered
+pub mod Building
+pub mod Written
+pub mod Readable

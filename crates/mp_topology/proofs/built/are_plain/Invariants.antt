@@ -1,8 +1,0 @@
-use Rattle.std.proofs.Common.{◌≡◌, true, take, map}
-use Rattle.std.specs.List.{list_all}
-use Rattle.toml.specs.View.{view}
-use Rattle.mp_topology.specs.Topology.{is_plain}
-use Rattle.mp_topology.proofs.built.are_plain.Given as goal
-
-abbrev pub invariant-loop-item : goal.invariant-loop-item
-invariant-loop-item l = list_all is_plain (map view (take l.item-index l.items)) ≡ true
