@@ -20,6 +20,7 @@ pub mod TurnFacts
 pub mod Placed
 pub mod WholeRun
 pub mod Keepers
+pub mod Coming
 pub mod LastRounds
 pub mod Quiet
 pub mod Told

@@ -1,9 +1,8 @@
 //! The state of a run, and its calls.
 
-ghost use Rattle.std.specs.Prelude.{◌≡◌, ◌≤◌, ◌<◌, ◌^◌, ℕ, true, false, [], ◌∷◌, IfOk, OnOk, Some, None, length, map, take, zip, replicate, slice_index_or};
+ghost use Rattle.std.specs.Prelude.{◌≡◌, ◌≤◌, ◌<◌, ℕ, true, false, [], IfOk, OnOk, Some, None, length, map, take, zip, replicate, slice_index_or};
 ghost use Rattle.std.specs.List.{list_any};
 ghost use Rattle.mp_words.specs.declared.trying.Outcome.TheVariants as outcome;
-ghost use Rattle.mp_words.specs.declared.row.Policy.TheVariants as policy;
 ghost use Rattle.mp_record.specs.declared.event.Event.TheVariants as event;
 ghost use Rattle.mp_words.specs.Effect.{free_row};
 ghost use Rattle.mp_words.specs.Row.{is_available};

@@ -1,6 +1,6 @@
 //! The flights of one lane.
 
-ghost use Rattle.std.specs.Prelude.{◌≡◌, ◌≤◌, ◌==◌, ◌++◌, ◌∷◌, [], false, not, IfOk, OnOk, filter, length, vec_len};
+ghost use Rattle.std.specs.Prelude.{◌≡◌, ◌==◌, ◌++◌, ◌∷◌, [], false, not, IfOk, OnOk, filter, length};
 ghost use Rattle.std.specs.Option.{option_to_list};
 ghost use Rattle.mp_run.specs.Numbers.{has_flight};
 ghost use Rattle.mp_run.specs.PlainLine.{flights_with};

@@ -1,10 +1,8 @@
 //! The parts of a run.
 
-ghost use Rattle.std.specs.Prelude.{◌≡◌, ◌∷◌, [], ◌<◌, ◌≤◌, ◌++◌, IfOk, OnOk, map, length, take};
+ghost use Rattle.std.specs.Prelude.{◌≡◌, ◌∷◌, [], ◌<◌, ◌≤◌, IfOk, OnOk, map, length};
 ghost use Rattle.std.specs.List.{enumerate_from};
 ghost use Rattle.mp_words.specs.Request.{asked_of};
-ghost use Rattle.mp_words.specs.declared.op.Maker.TheVariants as maker;
-ghost use Rattle.mp_words.specs.declared.entry.KeepEntry.TheVariants as keep;
 ghost use Rattle.mp_run.specs.Opening.{opening_entry};
 ghost use Rattle.mp_run.specs.PlainRun.{by_number, entries_of};
 ghost use Rattle.std.specs.BTreeMap.{insert_entry};

@@ -1,6 +1,6 @@
 //! The state with which a run begins.
 
-ghost use Rattle.std.specs.Prelude.{◌≡◌, ◌<◌, ◌≤◌, ◌++◌, [], IfOk, OnOk, Some, map, length, slice_get, vec_len, take, replicate, unwrap_or, All};
+ghost use Rattle.std.specs.Prelude.{◌≡◌, ◌<◌, ◌≤◌, ◌++◌, IfOk, OnOk, Some, map, length, slice_get, vec_len, take, replicate, unwrap_or, All};
 ghost use Rattle.std.specs.List.{range_with_len};
 ghost use Rattle.mp_words.specs.Effect.{free_row, given_row};
 ghost use Rattle.mp_page.specs.Page.{page_in};

@@ -1,6 +1,6 @@
 //! The requests of a run, in the order submitted.
 
-ghost use Rattle.std.specs.Prelude.{◌≡◌, ◌≤◌, ◌+◌, ◌<◌, ◌++◌, ◌∷◌, [], ℕ, true, false, IfOk, OnOk, Some, None, length, map, take, vec_len};
+ghost use Rattle.std.specs.Prelude.{◌≡◌, ◌≤◌, ◌+◌, ◌<◌, ◌++◌, ◌∷◌, [], true, false, IfOk, OnOk, None, length, map, take};
 ghost use Rattle.std.specs.List.{last_or};
 ghost use Rattle.mp_words.specs.Request.{asked_of, outcome_of, tried_of};
 ghost use Rattle.mp_words.specs.declared.trying.Outcome.TheVariants as outcome;
