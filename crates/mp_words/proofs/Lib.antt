@@ -1,2 +1,11 @@
+pub mod Behinds
+pub mod Effects
+pub mod Hex
 pub mod Last
+pub mod NameLaws
+pub mod OrderLaws
+pub mod Orders
+pub mod Paths
+pub mod Places
 pub mod Rising
+pub mod Rows

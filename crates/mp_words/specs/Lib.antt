@@ -1,8 +1,20 @@
+-- The words of the host: rows, orders, how they stand in words of the table, what changes a row, and requests with their tries.
 pub mod Row
 pub mod Near
 pub mod Names
 pub mod Order
+pub mod Places
+pub mod PathTable
 pub mod Effect
+pub mod Facts
 pub mod RequestView
 pub mod Request
 pub mod Answers
+pub mod States
+pub mod Status
+pub mod WordBits
+pub mod RowWord
+pub mod SideWord
+pub mod OrderWord
+pub mod Later
+pub mod TwoPaths

@@ -2,8 +2,9 @@
 
 use crate::numbers::{LaneId, ReqId, Slot};
 
-/// A request on its way to a path, with the version of the path's row by which it was sent.
-#[derive(Clone, Copy)]
+/// A request on its way to a path, with the version of the path's usable row by which it was sent.
+///
+/// A flight is never copied or dropped: each is spent once, by the call that ends it.
 pub struct Flight {
     pub slot: Slot,
     pub version: u32,

@@ -3,10 +3,14 @@
 #![tactic(auto)]
 
 pub mod answers;
+pub mod effect;
+pub mod effect_laws;
 pub mod entry;
 pub mod flight;
+mod later;
 pub mod laws;
 pub mod name;
+pub mod name_laws;
 pub mod names;
 pub mod near;
 pub mod note;
@@ -14,7 +18,16 @@ pub mod numbered;
 pub mod numbers;
 pub mod op;
 pub mod order;
+pub mod packing_laws;
+pub mod path;
+pub mod place_laws;
 pub mod reading;
 pub mod request;
 pub mod row;
+pub mod slots;
+pub mod states;
+pub mod status;
+#[cfg(test)]
+mod tests;
 pub mod trying;
+pub mod words;

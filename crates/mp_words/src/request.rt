@@ -1,6 +1,6 @@
 //! A request with its tries.
 
-ghost use Rattle.std.specs.Prelude.{◌≡◌, ◌≤◌, ◌+◌, ◌++◌, ◌∷◌, [], OnOk, OnErr, Some, None, length, map, take, vec_len, vec_capacity};
+ghost use Rattle.std.specs.Prelude.{◌≡◌, ◌≤◌, ◌+◌, ◌++◌, ◌∷◌, [], OnOk, OnErr, Err, Some, None, length, map, take, vec_len, vec_capacity};
 ghost use Rattle.std.specs.List.{last_or};
 ghost use Rattle.mp_words.specs.Request.{outcome_of, attempts_of, tried_of, asked_of, ended_tries, done_with};
 
@@ -60,7 +60,7 @@ impl Request {
         }
     }
 
-    /// Makes room for one more try.
+    /// Makes room for one more try. A request has at most 67,108,864 tries.
     ///
     /// # Errors
     ///
@@ -73,6 +73,8 @@ impl Request {
         ensures id { self.new.id ≡ self.old.id }
         ensures node { self.new.node ≡ self.old.node }
         ensures tries { self.new.tries ≡ self.old.tries }
+        ensures full { length self.old.tries ≡ 67108864 → result ≡ Err SubmitError.NoMemory }
+        ensures most { length self.new.tries + self.new.spare ≤ 67108864 }
     {
         if self.tries.len() == MOST_TRIES {
             return Err(SubmitError::NoMemory);
@@ -80,11 +82,19 @@ impl Request {
         self.tries.reserve(1).map_err(|_| SubmitError::NoMemory)
     }
 
-    /// The tries, in order.
+    /// The tries, in order, at most 67,108,864, and fewer where there is room for one more.
     pub fn tries(&self) -> &[Try]
-        ensures { result.now ≡ self.now.tries }
+        ensures tries { result.now ≡ self.now.tries }
+        ensures most { length self.now.tries + self.now.spare ≤ 67108864 }
     {
         self.tries.as_slice()
+    }
+
+    /// The number of the next try: the first has the number 1.
+    pub fn next(&self) -> u32
+        ensures { result ≡ length self.now.tries + 1 }
+    {
+        self.tries.len() as u32 + 1
     }
 
     /// The node that it was submitted on, on which a requeue submits it again.
@@ -94,9 +104,10 @@ impl Request {
         self.node
     }
 
-    /// How many attempts were made.
+    /// How many attempts were made: at most six a try.
     pub fn attempts(&self) -> u32
-        ensures { result ≡ attempts_of (asked_of self.now).tries }
+        ensures count { result ≡ attempts_of (asked_of self.now).tries }
+        ensures most { result ≤ 402653184 }
     {
         attempts_in(self.tries.as_slice())
     }
@@ -121,6 +132,7 @@ impl Request {
         ensures tries { self.new.tries ≡ self.old.tries ++ made ∷ [] }
         ensures id { self.new.id ≡ self.old.id }
         ensures node { self.new.node ≡ self.old.node }
+        ensures room { self.old.spare ≤ self.new.spare + 1 }
     {
         // The proof of a push needs each type inside a try named here.
         let _: (Option<TryEnd>, Option<Back>, Option<RowEntry>) = (None, None, None);
@@ -198,7 +210,8 @@ fn count_of(made: &Try) -> u32
 /// How many attempts these tries made.
 fn attempts_in(tries: &[Try]) -> u32
     requires { length tries.now ≤ 67108864 }
-    ensures { result ≡ attempts_of (map tried_of tries.now) }
+    ensures count { result ≡ attempts_of (map tried_of tries.now) }
+    ensures most { result ≤ 402653184 }
 {
     let mut attempts = 0u32;
     for made in tries {
