@@ -1,7 +1,7 @@
 -- Laws of lists of checks.
-use Rattle.std.proofs.Common.{◌⊎◌, inl, inr, zero, ◌≡◌, ℕ, suc, ◌+◌, ◌<◌, ◌≤◌, Bool, true, false, List, [], ◌∷◌, ◌++◌, length, take, drop, get_or, Option, Some, None, refl, sym, ap, ◌∙◌, append_assoc, add-zero, zero-add, arith}
+use Rattle.std.proofs.Common.{◌⊎◌, inl, inr, zero, ◌≡◌, ℕ, suc, ◌+◌, ◌<◌, ◌≤◌, Bool, true, false, List, [], ◌∷◌, ◌++◌, length, take, drop, get_or, Option, Some, None, Result, Ok, Err, refl, sym, ap, ◌∙◌, append_assoc, add-zero, zero-add, arith}
 use Rattle.std.proofs.lemmas.List.{length-take-le, take_more, take_all, drop_more, take-append-drop, append-nil}
-use Rattle.mp_checks.specs.Checks.{first_fault, AllPass, each_from, or_else, IsLeast, IsFirst}
+use Rattle.mp_checks.specs.Checks.{first_fault, AllPass, Answers, Reads, value_unless, each_from, or_else, IsLeast, IsFirst}
 
 pub first_fault-append : {E : Type 0} (before after : List (Bool × E)) → AllPass before → first_fault (before ++ after) ≡ first_fault after
 first_fault-append [] after pass = refl
@@ -63,6 +63,46 @@ each_stops f xs i x d fault lt is before here =
 
 pub each_all : {X E : Type 0} (f : ℕ → X → List (Bool × E)) (xs : List X) (i : ℕ) → length xs ≤ i → first_fault (each_from f 0 (take i xs)) ≡ None → first_fault (each_from f 0 xs) ≡ None
 each_all f xs i le none = rw (← take_all i xs le) none
+
+-- ---- which check fails
+
+pub fault_cases : {E : Type 0} (cs ds : List (Bool × E)) (e : E) → first_fault (cs ++ ds) ≡ Some e → (first_fault cs ≡ Some e) ⊎ ((first_fault cs ≡ None) × (first_fault ds ≡ Some e))
+fault_cases [] ds e h = inr (refl, h)
+fault_cases ((true, f) ∷ cs) ds e h = fault_cases cs ds e h
+fault_cases ((false, f) ∷ cs) ds e h = inl h
+
+pub first_cases : {E : Type 0} (b : Bool) (f e : E) (cs : List (Bool × E)) → first_fault ((b, f) ∷ cs) ≡ Some e → ((b ≡ false) × (e ≡ f)) ⊎ ((b ≡ true) × (first_fault cs ≡ Some e))
+first_cases true f e cs h = inr (refl, h)
+first_cases false f e cs h = inl (refl, cc)
+
+-- ---- a value, or the first refusal
+
+pub unless_ok : {V E : Type 0} (o : Option E) (v w : V) → value_unless o v ≡ Ok w → (o ≡ None) × (v ≡ w)
+unless_ok None v w h = (refl, cc)
+unless_ok (Some e) v w h = absurd cc
+
+pub unless_err : {V E : Type 0} (o : Option E) (v : V) (e : E) → value_unless o v ≡ Err e → o ≡ Some e
+unless_err None v e h = absurd cc
+unless_err (Some f) v e h = cc
+
+pub reads_answers : {V E : Type 0} (memory : E) (r : Result V E) (cs : List (Bool × E)) (v : V) → Reads memory r cs v → Answers memory r (value_unless (first_fault cs) v)
+reads_answers memory (Ok x) cs v h = rw (h.0, h.1) refl
+reads_answers memory (Err e) cs v h = λ n. rw (h n) refl
+
+-- ---- the checks of each item
+
+each_from_passes : {X E : Type 0} (f : ℕ → X → List (Bool × E)) (n : ℕ) (xs : List X) → AllPass (each_from f n xs) → (k : ℕ) (d : X) → k < length xs → AllPass (f (n + k) (get_or xs k d))
+each_from_passes f n [] h k d lt = absurd (omega arith)
+each_from_passes f n (x ∷ xs) h zero d lt = rw add-zero (pass_split (f n x) (each_from f (suc n) xs) h).0
+each_from_passes f n (x ∷ xs) h (suc k) d lt =
+    let e : n + suc k ≡ suc n + k = omega arith in
+    rw e (each_from_passes f (suc n) xs (pass_split (f n x) (each_from f (suc n) xs) h).1 k d (omega arith))
+
+-- each item passes its checks
+pub each_passes : {X E : Type 0} (f : ℕ → X → List (Bool × E)) (xs : List X) → AllPass (each_from f 0 xs) → (k : ℕ) (d : X) → k < length xs → AllPass (f k (get_or xs k d))
+each_passes f xs h k d lt = rw zero-add at (each_from_passes f 0 xs h k d lt)
+
+-- ---- the least fault of items
 
 or_else_cases : {E : Type 0} (a b : Option E) (e : E) → or_else a b ≡ Some e → (a ≡ Some e) ⊎ ((a ≡ None) × (b ≡ Some e))
 or_else_cases None b e h = inr (refl, h)

@@ -28,12 +28,22 @@ abbrev pub Reads : {V E : Type 0} → E → Result V E → List (Bool × E) → 
 Reads memory (Ok v) checks value = (first_fault checks ≡ None) × (v ≡ value)
 Reads memory (Err e) checks value = (e ≡ memory → ⊥) → first_fault checks ≡ Some e
 
+-- an answer, with its value as this function sees it
+abbrev pub seen_as : {V W E : Type 0} → (V → W) → Result V E → Result W E
+seen_as view (Ok v) = Ok (view v)
+seen_as view (Err e) = Err e
+
+-- a value, or the refusal where there is one
+abbrev pub value_unless : {V E : Type 0} → Option E → V → Result V E
+value_unless None value = Ok value
+value_unless (Some refusal) value = Err refusal
+
 -- the checks of each item in turn, with its place, counted from n
 abbrev pub each_from : {X E : Type 0} → (ℕ → X → List (Bool × E)) → ℕ → List X → List (Bool × E)
 each_from f n [] = []
 each_from f n (x ∷ xs) = f n x ++ each_from f (suc n) xs
 
--- a test of what is there
+-- the test of a value, true where there is none
 abbrev pub if_there : {X : Type 0} → (X → Bool) → Option X → Bool
 if_there p None = true
 if_there p (Some x) = p x
@@ -43,8 +53,8 @@ abbrev pub or_else : {E : Type 0} → Option E → Option E → Option E
 or_else None later = later
 or_else (Some e) later = Some e
 
--- The fault is the least pair of item and check that fails: the items before place i have no fault, and
--- the fault is the first of the item there.
+-- The fault is the least pair of item and check that fails: the items before a place have no fault, and the fault is
+-- the first of the item there.
 pub record IsLeast {X E : Type 0} (f : ℕ → X → List (Bool × E)) (xs : List X) (fault : E) : Type 0 where
   pub place : ℕ
   pub within : place < length xs
