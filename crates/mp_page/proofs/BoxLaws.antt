@@ -1,17 +1,17 @@
 -- Boxes, one after the other.
-use Rattle.std.proofs.Common.{◌≡◌, ℕ, zero, suc, ◌+◌, ◌-◌, ◌≤◌, ◌<◌, List, [], ◌∷◌, ◌++◌, length, drop, Option, Some, None, Result, Ok, Err, refl, sym, ◌∙◌, append_assoc, arith, length-drop}
-use Rattle.std.specs.Prelude.{IfOk}
+use Rattle.std.proofs.Common.{◌≡◌, ℕ, zero, suc, ◌+◌, ◌-◌, ◌≤◌, ◌<◌, List, [], ◌∷◌, ◌++◌, length, map, drop, Option, Some, None, Result, Ok, Err, refl, sym, ◌∙◌, append_assoc, arith, length-drop}
+use Rattle.std.specs.Prelude.{IfOk, Vec}
+use Rattle.std.specs.declared.alloc.Global.{Global}
 use Rattle.std.specs.List.{All, AllByRecursion}
 use Rattle.std.proofs.lemmas.Bool.{leb-true, le-leb}
-use Rattle.std.proofs.lemmas.List.{length-take-le}
+use Rattle.std.proofs.lemmas.List.{length-take-le, length-map}
 use Rattle.std.proofs.lemmas.List.Elements.{All-from_recursion}
-use Rattle.mp_checks.specs.Checks.{first_fault, AllPass, Answers, Reads}
-use Rattle.mp_checks.proofs.CheckLaws.{fault_append, pass_split, pass_join}
+use Rattle.mp_checks.specs.Checks.{first_fault, AllPass, Answers, Reads, seen_as}
+use Rattle.mp_checks.proofs.CheckLaws.{fault_append, pass_split, pass_join, all_pass, reads_answers}
 use Rattle.mp_page.specs.declared.boxes.BoxError.{BoxError}
 use Rattle.mp_page.specs.declared.boxes.BoxError.TheVariants.{TooMany, NoMemory}
 use Rattle.mp_page.specs.Page.{number}
-use Rattle.mp_page.specs.Boxes.{box_of, box_size, boxes_of, box_checks, boxes_checks, boxes_up_to, boxes_in, IsBox, AreBoxes, boxes_size}
-use Rattle.mp_page.proofs.Checks.{fault_passes}
+use Rattle.mp_page.specs.Boxes.{box_of, box_size, boxes_of, box_checks, boxes_checks, boxes_in, IsBox, AreBoxes, boxes_size}
 
 pub length-box : (rest : List ℕ) → box_size rest ≤ length rest → length (box_of rest) ≡ number 0 4 rest
 length-box rest le =
@@ -22,7 +22,7 @@ length-box rest le =
 pub box_known : (offset : ℕ) (rest box : List ℕ) → first_fault (box_checks offset rest) ≡ None → box ≡ box_of rest
     → (4 + length box ≡ box_size rest) × (box_size rest ≤ length rest)
 box_known offset rest box none is =
-    let fits : box_size rest ≤ length rest = leb-true _ _ (fault_passes (box_checks offset rest) none).1.1.0 in
+    let fits : box_size rest ≤ length rest = leb-true _ _ (all_pass (box_checks offset rest) none).1.1.0 in
     (rw (is, length-box rest fits) refl, fits)
 
 pub checks_more : (left offset : ℕ) (rest : List ℕ) → 0 < length rest → boxes_checks (suc left) offset rest ≡ box_checks offset rest ++ boxes_checks left (offset + box_size rest) (drop (box_size rest) rest)
@@ -120,18 +120,35 @@ pages_within : (rest : List ℕ) (boxes : List (List ℕ)) → AreBoxes rest box
 pages_within rest [] are = tt
 pages_within rest (box ∷ boxes) are = (are.0.within, pages_within (drop (4 + length box) rest) boxes are.1)
 
-pub few : (most : ℕ) (bytes : List ℕ) (r : Result (List (List ℕ)) BoxError) → Reads NoMemory r (boxes_checks most 0 bytes) (boxes_of most bytes) → IfOk r (λ boxes. length boxes ≤ most)
-few most bytes (Ok boxes) h = rw h.1 (length-boxes most bytes)
+-- a file of boxes as the code has it
+abbrev Boxes : Type 0
+Boxes = Vec (Vec ℕ Global) Global
+
+-- the boxes as lists
+abbrev seen : Boxes → List (List ℕ)
+seen boxes = map (λ v. v.items) boxes.items
+
+-- what was answered is what was read, of boxes as lists
+abbrev AreRead : ℕ → List ℕ → Result Boxes BoxError → Type 0
+AreRead most bytes r = Reads NoMemory (seen_as seen r) (boxes_checks most 0 bytes) (boxes_of most bytes)
+
+pub few : (most : ℕ) (bytes : List ℕ) (r : Result Boxes BoxError) → AreRead most bytes r → IfOk r (λ boxes. length boxes.items ≤ most)
+few most bytes (Ok boxes) h =
+    let same : length (seen boxes) ≡ length boxes.items = length-map boxes.items (λ v. v.items) in
+    rw (← same, h.1) (length-boxes most bytes)
 few most bytes (Err e) h = tt
 
-pub within : (most : ℕ) (bytes : List ℕ) (r : Result (List (List ℕ)) BoxError) → Reads NoMemory r (boxes_checks most 0 bytes) (boxes_of most bytes) → IfOk r (λ boxes. All (λ page. length page ≤ 65536) boxes)
-within most bytes (Ok boxes) h = rw h.1 (All-from_recursion (λ page. length page ≤ 65536) (boxes_of most bytes) (pages_within bytes (boxes_of most bytes) (are_boxes most 0 bytes (fault_passes (boxes_checks most 0 bytes) h.0)).0))
+seen_all : (P : List ℕ → Type 0) (vs : List (Vec ℕ Global)) → AllByRecursion P (map (λ v. v.items) vs) → AllByRecursion (λ v. P v.items) vs
+seen_all P [] all = tt
+seen_all P (v ∷ vs) all = (all.0, seen_all P vs all.1)
+
+pub within : (most : ℕ) (bytes : List ℕ) (r : Result Boxes BoxError) → AreRead most bytes r → IfOk r (λ boxes. All (λ page. length page.items ≤ 65536) boxes.items)
+within most bytes (Ok boxes) h =
+    let all : AllByRecursion (λ page. length page ≤ 65536) (seen boxes) =
+    rw h.1 (pages_within bytes (boxes_of most bytes) (are_boxes most 0 bytes (all_pass (boxes_checks most 0 bytes) h.0)).0) in
+    All-from_recursion (λ page. length page.items ≤ 65536) boxes.items (seen_all (λ page. length page ≤ 65536) boxes.items all)
 within most bytes (Err e) h = tt
 
-give_up_to : (most : ℕ) (bytes : List ℕ) (r : Result (List (List ℕ)) BoxError) → Reads NoMemory r (boxes_checks most 0 bytes) (boxes_of most bytes) → Answers NoMemory r (boxes_up_to most bytes)
-give_up_to most bytes (Ok boxes) h = rw (h.0, h.1) refl
-give_up_to most bytes (Err e) h = λ n. rw (h n) refl
-
-pub gives : (bytes : List ℕ) (r : Result (List (List ℕ)) BoxError) → Reads NoMemory r (boxes_checks 1024 0 bytes) (boxes_of 1024 bytes) → Answers NoMemory r (boxes_in bytes)
+pub gives : (bytes : List ℕ) (r : Result Boxes BoxError) → AreRead 1024 bytes r → Answers NoMemory (seen_as seen r) (boxes_in bytes)
 unfolding boxes_in
-gives bytes r h = give_up_to 1024 bytes r h
+gives bytes r h = reads_answers NoMemory (seen_as seen r) (boxes_checks 1024 0 bytes) (boxes_of 1024 bytes) h

@@ -2,11 +2,10 @@
 use Rattle.std.proofs.Common.{◌≡◌, ◌⊎◌, inl, inr, ◌↔◌, ℕ, zero, suc, ◌+◌, ◌-◌, ◌≤◌, ◌<◌, Bool, true, false, List, [], ◌∷◌, ◌++◌, length, Some, None, Ok, Err, drop, refl, sym, ap, ◌∙◌, add-zero, zero-add, arith, length-drop}
 use Rattle.std.proofs.lemmas.Bool.{leb-true}
 use Rattle.mp_checks.specs.Checks.{first_fault}
-use Rattle.mp_checks.proofs.CheckLaws.{first_fault-append}
+use Rattle.mp_checks.proofs.CheckLaws.{first_fault-append, all_pass, no_fault, fault_cases, unless_ok, unless_err}
 use Rattle.mp_page.specs.declared.boxes.BoxError.{BoxError}
 use Rattle.mp_page.specs.declared.boxes.BoxError.TheVariants.{TooMany}
 use Rattle.mp_page.specs.Boxes.{box_of, box_size, boxes_of, box_checks, boxes_checks, boxes_up_to, boxes_in, AreBoxes, boxes_size, AreAll, IsFile, IsBoxRefused, IsFileRefused}
-use Rattle.mp_page.proofs.Checks.{fault_passes, pass_faultless, fault_cases, unless_ok, unless_err}
 use Rattle.mp_page.proofs.Refused.{drop_both}
 use Rattle.mp_page.proofs.BoxLaws.{length-box, is_box, are_boxes, length-boxes, boxes_pass, box_passes}
 
@@ -14,11 +13,11 @@ all_read : (most : ℕ) (bytes : List ℕ) (boxes : List (List ℕ)) → (boxes_
 all_read most bytes boxes = (
   λ h.
       let p = unless_ok (first_fault (boxes_checks most 0 bytes)) (boxes_of most bytes) boxes h in
-      let are = are_boxes most 0 bytes (fault_passes (boxes_checks most 0 bytes) p.0) in
+      let are = are_boxes most 0 bytes (all_pass (boxes_checks most 0 bytes) p.0) in
       rw (← p.1) (record { count = length-boxes most bytes; each = are.0; all = are.1 }),
   λ is.
       let p = boxes_pass most 0 bytes boxes is.count is.each is.all in
-      let none : first_fault (boxes_checks most 0 bytes) ≡ None = pass_faultless (boxes_checks most 0 bytes) p.0 in
+      let none : first_fault (boxes_checks most 0 bytes) ≡ None = no_fault (boxes_checks most 0 bytes) p.0 in
       rw (none, p.1) refl,
 )
 
@@ -44,7 +43,7 @@ stops (suc left) offset (b ∷ bs) refusal h =
       | inl here ↦ record { before = []; are = tt; more = omega arith; fails = inr (omega arith, rw add-zero here) }
       | inr later ↦
           let more = stops left (offset + size) after refusal later.1 in
-          let pass = fault_passes (box_checks offset rest) later.0 in
+          let pass = all_pass (box_checks offset rest) later.0 in
           let fits : size ≤ length rest = leb-true _ _ pass.1.1.0 in
           let takes : 4 + length (box_of rest) ≡ size = rw (length-box rest fits) refl in
           let left_over : length after ≡ length rest - size = length-drop size rest in

@@ -1,4 +1,3 @@
-pub mod Checks
 pub mod Steps
 pub mod Pages
 pub mod Written

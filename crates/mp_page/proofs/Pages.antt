@@ -4,8 +4,7 @@ use Rattle.std.specs.Prelude.{slice_index, IfOk, IfErr}
 use Rattle.std.proofs.lemmas.Bool.{leb-true, le-leb}
 use Rattle.std.proofs.lemmas.Bool.Decides.{nat_tests}
 use Rattle.mp_checks.specs.Checks.{first_fault, AllPass, Answers, Reads}
-use Rattle.mp_checks.proofs.CheckLaws.{pass_split, pass_join}
-use Rattle.mp_page.proofs.Checks.{fault_passes, pass_faultless}
+use Rattle.mp_checks.proofs.CheckLaws.{pass_split, pass_join, all_pass, no_fault}
 use Rattle.mp_page.specs.declared.page.Group.{Group}
 use Rattle.mp_page.specs.declared.page.Page.{Page}
 use Rattle.mp_page.specs.declared.page.PageError.{PageError}
@@ -86,13 +85,13 @@ page_passes max bytes page is =
     ((le-leb _ _ is.header, rw is.count p.0), e)
 
 pub found : (max : ℕ) (bytes : List ℕ) (r : Result Page PageError) → Reads NoMemory r (page_checks max bytes) (page_of bytes) → IfOk r (IsPage max bytes)
-found max bytes (Ok page) h = rw h.1 (is_page max bytes (fault_passes (page_checks max bytes) h.0))
+found max bytes (Ok page) h = rw h.1 (is_page max bytes (all_pass (page_checks max bytes) h.0))
 found max bytes (Err e) h = tt
 
 pub only : (max : ℕ) (bytes : List ℕ) (page : Page) (r : Result Page PageError) → Reads NoMemory r (page_checks max bytes) (page_of bytes) → IsPage max bytes page → Answers NoMemory r (Ok page)
 only max bytes page (Ok p) h is = ap Ok (sym (h.1 ∙ (page_passes max bytes page is).1))
 only max bytes page (Err e) h is = λ n.
-    let none : first_fault (page_checks max bytes) ≡ None = pass_faultless (page_checks max bytes) (page_passes max bytes page is).0 in
+    let none : first_fault (page_checks max bytes) ≡ None = no_fault (page_checks max bytes) (page_passes max bytes page is).0 in
     absurd (cc (sym none ∙ h n))
 
 pub refused : (max : ℕ) (bytes : List ℕ) (r : Result Page PageError) → Reads NoMemory r (page_checks max bytes) (page_of bytes) → IfErr r (λ e. (e ≡ NoMemory → ⊥) → first_fault (page_checks max bytes) ≡ Some e)
@@ -109,5 +108,5 @@ pub page_found : (max : ℕ) (bytes : List ℕ) (page : Page) → IsPage max byt
 unfolding page_in
 page_found max bytes page is =
     let p = page_passes max bytes page is in
-    let none : first_fault (page_checks max bytes) ≡ None = pass_faultless (page_checks max bytes) p.0 in
+    let none : first_fault (page_checks max bytes) ≡ None = no_fault (page_checks max bytes) p.0 in
     rw (none, p.1) refl

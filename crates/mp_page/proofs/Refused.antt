@@ -4,14 +4,13 @@ use Rattle.std.specs.Prelude.{nat_le}
 use Rattle.std.proofs.lemmas.List.{drop-drop}
 use Rattle.std.proofs.lemmas.Bool.{leb-true, leb-false, le-leb, lt-leb}
 use Rattle.mp_checks.specs.Checks.{first_fault}
-use Rattle.mp_checks.proofs.CheckLaws.{first_fault-append}
+use Rattle.mp_checks.proofs.CheckLaws.{first_fault-append, all_pass, fault_cases, first_cases, unless_ok, unless_err}
 use Rattle.mp_page.specs.declared.page.Group.{Group}
 use Rattle.mp_page.specs.declared.page.Page.{Page}
 use Rattle.mp_page.specs.declared.page.PageError.{PageError}
 use Rattle.mp_page.specs.declared.page.PageError.TheVariants.{ShortHeader, NoMemory}
 use Rattle.mp_page.specs.Page.{number, size_of, group_of, group_checks, groups_checks, page_checks, page_of, page_in}
 use Rattle.mp_page.specs.Grammar.{group_size, groups_size, IsGroup, AreGroups, IsPage, IsRefused}
-use Rattle.mp_page.proofs.Checks.{fault_passes, fault_cases, first_cases, unless_ok, unless_err}
 use Rattle.mp_page.proofs.Steps.{length-numbers}
 use Rattle.mp_page.proofs.Pages.{is_group, group_passes, is_page, page_found}
 
@@ -34,7 +33,7 @@ stops max (suc n) offset rest refusal h =
       | inl here ↦ record { before = []; are = tt; more = omega arith; fails = rw add-zero here }
       | inr later ↦
           let more = stops max n (offset + size) after refusal later.1 in
-          let is : IsGroup max rest (group_of rest) = is_group max offset rest (fault_passes (group_checks max offset rest) later.0) in
+          let is : IsGroup max rest (group_of rest) = is_group max offset rest (all_pass (group_checks max offset rest) later.0) in
           let takes : group_size (group_of rest) ≡ size = rw (length-numbers (number 4 4 rest) 32 rest) refl in
           let place : offset + (group_size (group_of rest) + groups_size more.before) ≡ offset + size + groups_size more.before = omega (arith, takes) in
           let there : drop (group_size (group_of rest) + groups_size more.before) rest ≡ drop (groups_size more.before) after = rw takes (sym (drop_both size (groups_size more.before) rest)) in
@@ -86,13 +85,13 @@ refusal_read max bytes refusal =
 pub page_read : (max : ℕ) (bytes : List ℕ) (page : Page) → (page_in max bytes ≡ Ok page) ↔ IsPage max bytes page
 unfolding page_in
 page_read max bytes page =
-    (λ h. let p = unless_ok (first_fault (page_checks max bytes)) (page_of bytes) page h in rw (← p.1) (is_page max bytes (fault_passes (page_checks max bytes) p.0)), λ is. page_found max bytes page is)
+    (λ h. let p = unless_ok (first_fault (page_checks max bytes)) (page_of bytes) page h in rw (← p.1) (is_page max bytes (all_pass (page_checks max bytes) p.0)), λ is. page_found max bytes page is)
 
 pub page_or_refused : (max : ℕ) (bytes : List ℕ) → ((page : Page) × IsPage max bytes page) ⊎ ((refusal : PageError) × IsRefused max bytes refusal)
 page_or_refused max bytes = by_fault (first_fault (page_checks max bytes)) refl
   where
     by_fault : (fault : Option PageError) → first_fault (page_checks max bytes) ≡ fault → ((page : Page) × IsPage max bytes page) ⊎ ((refusal : PageError) × IsRefused max bytes refusal)
-    by_fault None is = inl (page_of bytes, is_page max bytes (fault_passes (page_checks max bytes) is))
+    by_fault None is = inl (page_of bytes, is_page max bytes (all_pass (page_checks max bytes) is))
     by_fault (Some refusal) is = inr (refusal, refused_by max bytes refusal is)
 
 -- none of the refusals is want of memory

@@ -3,11 +3,10 @@ use Rattle.std.proofs.Common.{◌≡◌, ℕ, zero, suc, true, ◌-◌, ◌+◌,
 use Rattle.std.specs.Prelude.{nat_le}
 use Rattle.std.proofs.lemmas.Bool.{leb-true}
 use Rattle.mp_checks.specs.Checks.{first_fault}
-use Rattle.mp_checks.proofs.CheckLaws.{fault_append}
+use Rattle.mp_checks.proofs.CheckLaws.{fault_append, all_pass}
 use Rattle.mp_page.specs.declared.page.Group.{Group}
 use Rattle.mp_page.specs.declared.page.PageError.{PageError}
 use Rattle.mp_page.specs.Page.{number, numbers, size_of, group_checks, group_of, groups_checks, groups_of}
-use Rattle.mp_page.proofs.Checks.{fault_passes}
 
 pub numbers_step : (found : List ℕ) (count i place : ℕ) (bytes : List ℕ) → i < count
     → (found ++ number (place + 4 * i) 4 bytes ∷ []) ++ numbers (count - (i + 1)) (place + 4 * (i + 1)) bytes ≡ found ++ numbers (count - i) (place + 4 * i) bytes
@@ -24,7 +23,7 @@ length-numbers (suc n) place bytes = ap suc (length-numbers n (place + 4) bytes)
 pub size_known : (max offset : ℕ) (rest : List ℕ) (group : Group) → first_fault (group_checks max offset rest) ≡ None → group ≡ group_of rest
     → (32 + 4 * length group.nsids ≡ size_of rest) × (size_of rest ≤ length rest)
 size_known max offset rest group none is =
-    let long : nat_le (size_of rest) (length rest) ≡ true = (fault_passes (group_checks max offset rest) none).1.1.1.1.1.0 in
+    let long : nat_le (size_of rest) (length rest) ≡ true = (all_pass (group_checks max offset rest) none).1.1.1.1.1.0 in
     (rw (is, length-numbers (number 4 4 rest) 32 rest) refl, leb-true _ _ long)
 
 pub groups_stop : (max count i offset : ℕ) (rest : List ℕ) (all : Option PageError) (fault : PageError) → i < count

@@ -1,16 +1,16 @@
 -- A file of boxes, each with the bytes of one log page: a length as four bytes, little endian, and then so many bytes.
 -- The form is this project's own.
 use Rattle.std.specs.Prelude.{◌≡◌, ◌⊎◌, ℕ, zero, suc, ◌+◌, ◌<◌, ◌≤◌, Bool, false, nat_le, List, [], ◌∷◌, ◌++◌, length, take, drop, Some, Result}
-use Rattle.mp_checks.specs.Checks.{first_fault}
+use Rattle.mp_checks.specs.Checks.{first_fault, value_unless}
 use Rattle.mp_page.specs.declared.boxes.BoxError.{BoxError}
 use Rattle.mp_page.specs.declared.boxes.BoxError.TheVariants.{TooMany, ShortBox, LongBox}
-use Rattle.mp_page.specs.Page.{number, unless_refused}
+use Rattle.mp_page.specs.Page.{number}
 
 -- the bytes in the box at the front
 abbrev pub box_of : List ℕ → List ℕ
 box_of rest = take (number 0 4 rest) (drop 4 rest)
 
--- what the box takes, with its length
+-- the bytes that the box at the front takes, with its length
 abbrev pub box_size : List ℕ → ℕ
 box_size rest = 4 + number 0 4 rest
 
@@ -32,11 +32,12 @@ box_checks offset rest =
 abbrev pub boxes_checks : ℕ → ℕ → List ℕ → List (Bool × BoxError)
 boxes_checks left offset [] = []
 boxes_checks zero offset (b ∷ bs) = (false, TooMany) ∷ []
-boxes_checks (suc left) offset (b ∷ bs) = box_checks offset (b ∷ bs) ++ boxes_checks left (offset + box_size (b ∷ bs)) (drop (box_size (b ∷ bs)) (b ∷ bs))
+boxes_checks (suc left) offset (b ∷ bs) =
+    box_checks offset (b ∷ bs) ++ boxes_checks left (offset + box_size (b ∷ bs)) (drop (box_size (b ∷ bs)) (b ∷ bs))
 
 -- the boxes of a file that may have so many, or the refusal of the first check that fails
 abbrev pub boxes_up_to : ℕ → List ℕ → Result (List (List ℕ)) BoxError
-boxes_up_to most bytes = unless_refused (first_fault (boxes_checks most 0 bytes)) (boxes_of most bytes)
+boxes_up_to most bytes = value_unless (first_fault (boxes_checks most 0 bytes)) (boxes_of most bytes)
 
 -- the boxes of a file, which may have 1,024, or the refusal of the first check that fails
 unfoldable pub boxes_in : List ℕ → Result (List (List ℕ)) BoxError
@@ -77,7 +78,9 @@ pub record IsBoxRefused (most : ℕ) (bytes : List ℕ) (refusal : BoxError) : T
   pub before : List (List ℕ)
   pub are : AreBoxes bytes before
   pub more : boxes_size before < length bytes
-  pub fails : ((length before ≡ most) × (refusal ≡ TooMany)) ⊎ ((length before < most) × (first_fault (box_checks (boxes_size before) (drop (boxes_size before) bytes)) ≡ Some refusal))
+  pub fails : ((length before ≡ most) × (refusal ≡ TooMany))
+      ⊎ ((length before < most)
+      × (first_fault (box_checks (boxes_size before) (drop (boxes_size before) bytes)) ≡ Some refusal))
 
 -- the bytes are no file, and why
 abbrev pub IsFileRefused : List ℕ → BoxError → Type 0

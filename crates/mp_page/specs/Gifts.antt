@@ -3,6 +3,7 @@
 use Rattle.std.specs.Prelude.{ℕ, Bool, true, false, ◌==◌, List, [], filter, Option, Some, None, option_map, Result, Err, slice_index_or}
 use Rattle.std.specs.List.{list_any, last_or}
 use Rattle.mp_words.specs.declared.op.Gift.{Gift}
+use Rattle.mp_words.specs.States.{optimized, inaccessible, change}
 use Rattle.mp_page.specs.declared.page.Group.{Group}
 use Rattle.mp_page.specs.declared.page.Page.{Page}
 use Rattle.mp_page.specs.declared.page.PageError.{PageError}
@@ -18,7 +19,7 @@ state_for page nsid = option_map (λ group. group.state) (last_or None (filter (
 
 -- some descriptor is in the state change
 abbrev pub changing : Page → Bool
-changing page = list_any (λ group. group.state == 15) page.groups
+changing page = list_any (λ group. group.state == change) page.groups
 
 -- a page without descriptors
 abbrev pub empty_page : Page
@@ -30,12 +31,12 @@ page_at pages box = slice_index_or pages box (Err (refusal.ShortHeader 0))
 
 -- a path of a controller without ANA
 abbrev pub plain_gift : ℕ → Gift
-plain_gift ctrl = record { ctrl = ctrl; ana = false; state = 1; pending = false; armed = false }
+plain_gift ctrl = record { ctrl = ctrl; ana = false; state = optimized; pending = false; armed = false }
 
 -- a path with ANA: in the state that is stated, else inaccessible and pending
 abbrev pub stated_gift : ℕ → Bool → Option ℕ → Gift
 stated_gift ctrl armed (Some state) = record { ctrl = ctrl; ana = true; state = state; pending = false; armed = armed }
-stated_gift ctrl armed None = record { ctrl = ctrl; ana = true; state = 3; pending = true; armed = armed }
+stated_gift ctrl armed None = record { ctrl = ctrl; ana = true; state = inaccessible; pending = true; armed = armed }
 
 -- what a new path begins with, by its page if its controller has ANA
 abbrev pub gift_of : ℕ → ℕ → Option Page → Gift

@@ -42,7 +42,8 @@ pub record IsPage (max : ℕ) (bytes : List ℕ) (page : Page) : Type 0 where
 -- a place, counted from the first of these groups, is that of a reserved byte of a descriptor
 abbrev pub IsReservedIn : List Group → ℕ → Type 0
 IsReservedIn [] place = ⊥
-IsReservedIn (group ∷ groups) place = ((17 ≤ place) × (place < 32)) ⊎ ((group_size group ≤ place) × IsReservedIn groups (place - group_size group))
+IsReservedIn (group ∷ groups) place =
+    ((17 ≤ place) × (place < 32)) ⊎ ((group_size group ≤ place) × IsReservedIn groups (place - group_size group))
 
 -- a place is that of a reserved byte of a page
 abbrev pub IsReserved : Page → ℕ → Type 0
@@ -60,7 +61,8 @@ pub record IsGroupRefused (max : ℕ) (bytes : List ℕ) (refusal : PageError) :
   pub before : List Group
   pub are : AreGroups max (drop 16 bytes) before
   pub more : length before < number 8 2 bytes
-  pub fails : first_fault (group_checks max (16 + groups_size before) (drop (16 + groups_size before) bytes)) ≡ Some refusal
+  pub fails : first_fault (group_checks max (16 + groups_size before) (drop (16 + groups_size before) bytes))
+      ≡ Some refusal
 
 -- the bytes are no page, and why: the header is cut short, or a descriptor is refused
 abbrev pub IsRefused : ℕ → List ℕ → PageError → Type 0

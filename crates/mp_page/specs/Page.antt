@@ -1,9 +1,9 @@
 -- What bytes read as, taken for log page 0Ch (NVM Express Base Specification 2.0, "Asymmetric Namespace Access"): a
 -- header of 16 bytes, then ANA group descriptors of 32 bytes, each with its list of namespace identifiers of 4 bytes.
 -- All numbers are little endian.
-use Rattle.std.specs.Prelude.{ℕ, zero, suc, ◌+◌, ◌*◌, Bool, not, nat_le, ◌==◌, List, [], ◌∷◌, ◌++◌, length, drop, slice_index, Option, Some, None, Result, Ok, Err}
+use Rattle.std.specs.Prelude.{ℕ, zero, suc, ◌+◌, ◌*◌, Bool, not, nat_le, ◌==◌, List, [], ◌∷◌, ◌++◌, length, drop, slice_index, Result}
 use Rattle.byteorder.specs.Endian.{little_number}
-use Rattle.mp_checks.specs.Checks.{first_fault}
+use Rattle.mp_checks.specs.Checks.{first_fault, value_unless}
 use Rattle.mp_page.specs.declared.page.Group.{Group}
 use Rattle.mp_page.specs.declared.page.Page.{Page}
 use Rattle.mp_page.specs.declared.page.PageError.{PageError}
@@ -13,20 +13,25 @@ use Rattle.mp_page.specs.declared.page.PageError.TheVariants.{ShortHeader, Short
 unfoldable pub number : ℕ → ℕ → List ℕ → ℕ
 number place n bytes = little_number n (drop place bytes)
 
--- n numbers of 4 bytes each from a place
+-- so many numbers of 4 bytes each from a place
 abbrev pub numbers : ℕ → ℕ → List ℕ → List ℕ
 numbers zero place bytes = []
 numbers (suc n) place bytes = number place 4 bytes ∷ numbers n (place + 4) bytes
 
 -- the descriptor at the front
 abbrev pub group_of : List ℕ → Group
-group_of rest = record { id = number 0 4 rest; changes = number 8 8 rest; state = slice_index rest 16; nsids = numbers (number 4 4 rest) 32 rest }
+group_of rest = record {
+  id = number 0 4 rest;
+  changes = number 8 8 rest;
+  state = slice_index rest 16;
+  nsids = numbers (number 4 4 rest) 32 rest;
+}
 
--- the bytes that it takes, with its list
+-- the bytes that the descriptor at the front takes, with its list
 abbrev pub size_of : List ℕ → ℕ
 size_of rest = 32 + 4 * number 4 4 rest
 
--- n descriptors, one after the other
+-- so many descriptors, one after the other
 abbrev pub groups_of : ℕ → List ℕ → List Group
 groups_of zero rest = []
 groups_of (suc n) rest = group_of rest ∷ groups_of n (drop (size_of rest) rest)
@@ -49,17 +54,14 @@ group_checks max offset rest =
 -- the checks of n descriptors, the first of which stands at an offset
 abbrev pub groups_checks : ℕ → ℕ → ℕ → List ℕ → List (Bool × PageError)
 groups_checks max zero offset rest = []
-groups_checks max (suc n) offset rest = group_checks max offset rest ++ groups_checks max n (offset + size_of rest) (drop (size_of rest) rest)
+groups_checks max (suc n) offset rest =
+    group_checks max offset rest ++ groups_checks max n (offset + size_of rest) (drop (size_of rest) rest)
 
 -- the checks of a page: its header, then each descriptor in turn
 abbrev pub page_checks : ℕ → List ℕ → List (Bool × PageError)
-page_checks max bytes = (nat_le 16 (length bytes), ShortHeader 0) ∷ groups_checks max (number 8 2 bytes) 16 (drop 16 bytes)
-
--- a value, or why there is none
-abbrev pub unless_refused : {V E : Type 0} → Option E → V → Result V E
-unless_refused None value = Ok value
-unless_refused (Some refusal) value = Err refusal
+page_checks max bytes =
+    (nat_le 16 (length bytes), ShortHeader 0) ∷ groups_checks max (number 8 2 bytes) 16 (drop 16 bytes)
 
 -- the page that the bytes are under a bound on its groups, or the refusal of the first check that fails
 unfoldable pub page_in : ℕ → List ℕ → Result Page PageError
-page_in max bytes = unless_refused (first_fault (page_checks max bytes)) (page_of bytes)
+page_in max bytes = value_unless (first_fault (page_checks max bytes)) (page_of bytes)

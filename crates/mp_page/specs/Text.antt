@@ -3,14 +3,14 @@
 use Rattle.std.specs.Prelude.{ℕ, suc, List, [], ◌∷◌, ◌++◌, codes, length, Result, Ok, Err}
 use Rattle.std.specs.List.{flat_map}
 use Rattle.std.specs.Fmt.{decimal}
-use Rattle.mp_words.specs.Names.{state_word}
+use Rattle.mp_words.specs.Names.{state_word, page_check_word}
 use Rattle.mp_page.specs.declared.page.Group.{Group}
 use Rattle.mp_page.specs.declared.page.Page.{Page}
 use Rattle.mp_page.specs.declared.page.PageError.{PageError}
 use Rattle.mp_page.specs.declared.page.PageError.TheVariants.{ShortHeader, ShortDescriptor, GroupZero, GroupAbove, StateBad, ShortList, NoMemory}
 use Rattle.mp_page.specs.Page.{page_in}
 
--- a further number of a list
+-- a comma and a further number of a list
 abbrev pub next_word : ℕ → List ℕ
 next_word n = codes "," ++ decimal n
 
@@ -19,14 +19,14 @@ abbrev pub numbers_word : List ℕ → List ℕ
 numbers_word [] = codes "-"
 numbers_word (n ∷ ns) = decimal n ++ flat_map next_word ns
 
--- the check that a page fails; want of memory is no check
+-- the name of the check that a page fails; want of memory is no check and has none
 abbrev pub kind_word : PageError → List ℕ
-kind_word (ShortHeader offset) = codes "short-header"
-kind_word (ShortDescriptor offset) = codes "short-descriptor"
-kind_word (GroupZero offset) = codes "group-zero"
-kind_word (GroupAbove offset) = codes "group-above"
-kind_word (StateBad offset) = codes "state-bad"
-kind_word (ShortList offset) = codes "short-list"
+kind_word (ShortHeader offset) = page_check_word 1
+kind_word (ShortDescriptor offset) = page_check_word 2
+kind_word (GroupZero offset) = page_check_word 3
+kind_word (GroupAbove offset) = page_check_word 4
+kind_word (StateBad offset) = page_check_word 5
+kind_word (ShortList offset) = page_check_word 6
 kind_word NoMemory = []
 
 -- where the header or descriptor stands that fails it
@@ -39,19 +39,24 @@ offset_of (StateBad offset) = offset
 offset_of (ShortList offset) = offset
 offset_of NoMemory = 0
 
--- a descriptor
+-- the line of a descriptor
 abbrev pub group_line : Group → List ℕ
-group_line group = codes "group " ++ decimal group.id ++ codes " " ++ decimal group.changes ++ codes " " ++ state_word group.state ++ codes " " ++ numbers_word group.nsids ++ codes "\n"
+group_line group =
+    codes "group " ++ decimal group.id ++ codes " " ++ decimal group.changes ++ codes " "
+    ++ state_word group.state ++ codes " " ++ numbers_word group.nsids ++ codes "\n"
 
 -- the page in the box of this number and length, with its descriptors
 abbrev pub page_lines : ℕ → ℕ → Page → List ℕ
 page_lines box size page =
-    codes "page " ++ decimal box ++ codes " " ++ decimal size ++ codes " " ++ decimal page.changes ++ codes " " ++ decimal (length page.groups) ++ codes "\n"
+    codes "page " ++ decimal box ++ codes " " ++ decimal size ++ codes " " ++ decimal page.changes ++ codes " "
+    ++ decimal (length page.groups) ++ codes "\n"
     ++ flat_map group_line page.groups
 
--- the box of this number has no page
+-- the line of a box whose page is refused
 abbrev pub refused_line : ℕ → PageError → List ℕ
-refused_line box refusal = codes "page " ++ decimal box ++ codes " refused " ++ kind_word refusal ++ codes " " ++ decimal (offset_of refusal) ++ codes "\n"
+refused_line box refusal =
+    codes "page " ++ decimal box ++ codes " refused " ++ kind_word refusal ++ codes " "
+    ++ decimal (offset_of refusal) ++ codes "\n"
 
 -- what is told of the box of this number and length
 abbrev pub box_lines : ℕ → ℕ → Result Page PageError → List ℕ

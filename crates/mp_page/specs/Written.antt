@@ -10,13 +10,15 @@ use Rattle.mp_page.specs.declared.page.Page.{Page}
 unfoldable pub word : ℕ → ℕ → List ℕ
 word n x = little_bytes n x
 
--- n bytes of zero
+-- so many bytes of zero
 unfoldable pub zeros : ℕ → List ℕ
 zeros n = replicate n 0
 
 -- a group's descriptor with its list
 abbrev pub group_bytes : Group → List ℕ
-group_bytes group = word 4 group.id ++ (word 4 (length group.nsids) ++ (word 8 group.changes ++ (group.state ∷ zeros 15 ++ flat_map (word 4) group.nsids)))
+group_bytes group =
+    word 4 group.id ++ (word 4 (length group.nsids) ++ (word 8 group.changes
+    ++ (group.state ∷ zeros 15 ++ flat_map (word 4) group.nsids)))
 
 -- a page: its header, then its descriptors
 abbrev pub page_bytes : Page → List ℕ

@@ -1,11 +1,10 @@
 //! Reads a file of log pages, each in its box.
-ghost use Rattle.std.specs.Prelude.{◌≡◌, ◌≤◌, length, All, IfOk};
-ghost use Rattle.mp_checks.specs.Checks.{Answers, Reads};
+ghost use Rattle.std.specs.Prelude.{◌≡◌, ◌≤◌, length, map, All, IfOk};
+ghost use Rattle.mp_checks.specs.Checks.{Answers, Reads, seen_as};
 ghost use Rattle.mp_page.specs.declared.boxes.BoxError.TheVariants.{NoMemory};
 ghost use Rattle.mp_page.specs.Boxes.{box_of, box_checks, boxes_of, boxes_checks, boxes_in};
 
 use crate::numbers::u32_at;
-use sqlite_items::Items;
 use std::alloc::{AllocError, AllocFailed, Global};
 use thiserror::Error;
 
@@ -44,8 +43,9 @@ impl<T: Drop> From<AllocFailed<T>> for BoxError {
     }
 }
 
-fn box_at(alloc: Global, offset: u32, rest: &[u8]) -> Result<Items<u8>, BoxError>
-    ensures { Reads BoxError.NoMemory result (box_checks offset rest.now) (box_of rest.now) }
+fn box_at(alloc: Global, offset: u32, rest: &[u8]) -> Result<Vec<u8>, BoxError>
+    ensures read { Reads BoxError.NoMemory (seen_as (λ v. v.items) result) (box_checks offset rest.now) (box_of rest.now) }
+    ensures short { IfOk result (λ page. length page.items ≤ 65536) }
 {
     if rest.len() < 4 {
         return Err(BoxError::ShortBox(offset));
@@ -59,13 +59,13 @@ fn box_at(alloc: Global, offset: u32, rest: &[u8]) -> Result<Items<u8>, BoxError
         return Err(BoxError::ShortBox(offset));
     }
     let (page, _) = after.split_at(size);
-    let page = Items::from_slice(alloc, page)?;
+    let page = Vec::from_slice(alloc, page)?;
     Ok(page)
 }
 
-fn boxes_at(alloc: Global, most: usize, bytes: &[u8]) -> Result<Items<Items<u8>>, BoxError>
-    requires { length bytes.now ≤ 16777216 }
-    ensures { Reads BoxError.NoMemory result (boxes_checks most 0 bytes.now) (boxes_of most bytes.now) }
+fn boxes_at(alloc: Global, most: usize, bytes: &[u8]) -> Result<Vec<Vec<u8>>, BoxError>
+    requires { most ≤ 1024 }
+    ensures { Reads BoxError.NoMemory (seen_as (λ boxes. map (λ v. v.items) boxes.items) result) (boxes_checks most 0 bytes.now) (boxes_of most bytes.now) }
 {
     let mut boxes = Vec::new(alloc);
     let mut rest = bytes;
@@ -81,24 +81,23 @@ fn boxes_at(alloc: Global, most: usize, bytes: &[u8]) -> Result<Items<Items<u8>>
         rest = after;
         offset += size as u32;
     }
-    Ok(Items::from_vec(boxes))
+    Ok(boxes)
 }
 
-/// Reads the boxes of a file of at most 16,777,216 bytes. A box is its length as four bytes, little endian, and then so
-/// many bytes. What stands in a box is not looked at.
+/// Reads the boxes of a file. A box is its length as four bytes, little endian, and then so many bytes. What stands in a
+/// box is not looked at.
 ///
 /// # Errors
 ///
 /// The first check that fails, of each box in turn, with the offset of the box. `TooMany`: 1,024 boxes were read and
 /// bytes remain. `ShortBox`: fewer than 4 bytes remain. `LongBox`: the length is above 65,536. `ShortBox` again: fewer
 /// bytes remain than the length says. `NoMemory` where memory runs out.
-pub fn read_boxes(alloc: Global, bytes: &[u8]) -> Result<Items<Items<u8>>, BoxError>
-    requires { length bytes.now ≤ 16777216 }
-    ensures gives { Answers BoxError.NoMemory result (boxes_in bytes.now) }
+pub fn read_boxes(alloc: Global, bytes: &[u8]) -> Result<Vec<Vec<u8>>, BoxError>
+    ensures gives { Answers BoxError.NoMemory (seen_as (λ boxes. map (λ v. v.items) boxes.items) result) (boxes_in bytes.now) }
     // A file has at most 1,024 boxes.
-    ensures few { IfOk result (λ boxes. length boxes ≤ 1024) }
+    ensures few { IfOk result (λ boxes. length boxes.items ≤ 1024) }
     // Each box has at most 65,536 bytes.
-    ensures pages { IfOk result (λ boxes. All (λ page. length page ≤ 65536) boxes) }
+    ensures pages { IfOk result (λ boxes. All (λ page. length page.items ≤ 65536) boxes.items) }
 {
     boxes_at(alloc, MOST_BOXES, bytes)
 }

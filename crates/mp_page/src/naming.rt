@@ -1,9 +1,11 @@
 //! What a log page says of a path.
 ghost use Rattle.std.specs.Prelude.{◌≡◌, ◌==◌, None, filter, option_map};
 ghost use Rattle.std.specs.List.{list_any, last_or};
+ghost use Rattle.mp_words.specs.States.{change};
 ghost use Rattle.mp_page.specs.Gifts;
 
 use crate::page::{Group, Page};
+use mp_words::states::CHANGE;
 
 fn names(group: &Group, nsid: u32) -> bool
     ensures { result ≡ Gifts.names nsid group.now }
@@ -24,9 +26,9 @@ fn last_stated(groups: &[Group], nsid: u32) -> Option<u8>
 }
 
 fn any_changing(groups: &[Group]) -> bool
-    ensures { result ≡ list_any (λ group. group.state == 15) groups.now }
+    ensures { result ≡ list_any (λ group. group.state == change) groups.now }
 {
-    groups.iter().any(|group| group.state == 15)
+    groups.iter().any(|group| group.state == CHANGE)
 }
 
 /// The ANA state, from 1 to 15, that a page states of a namespace: that of the last descriptor that names it, and `None`

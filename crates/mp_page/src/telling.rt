@@ -1,13 +1,12 @@
 //! The text that tells of log pages.
-ghost use Rattle.std.specs.Prelude.{◌≡◌, ◌≤◌, ◌++◌, ℕ, length, string_bytes, codes, Ok, Err, All, OnOk, IfOk, IfErr};
+ghost use Rattle.std.specs.Prelude.{◌≡◌, ◌≤◌, ◌++◌, ℕ, length, map, string_bytes, codes, Ok, Err, All, OnOk, IfOk, IfErr};
 ghost use Rattle.std.specs.List.{flat_map};
 ghost use Rattle.mp_page.specs.Page.{page_in};
 ghost use Rattle.mp_page.specs.Text.{numbers_word, kind_word, offset_of, group_line, page_lines, refused_line, box_lines, lines_from, pages_text};
 
 use crate::page::{Group, Page, PageError};
 use crate::reading::read_page;
-use mp_words::names::put_state;
-use sqlite_items::Items;
+use mp_words::names::{page_check_name, put_state};
 use std::alloc::{AllocError, Global};
 use std::fmt::Write;
 
@@ -55,12 +54,12 @@ fn kind_name(refusal: PageError) -> &'static str
     ensures { result.now ≡ kind_word refusal }
 {
     match refusal {
-        PageError::ShortHeader(_) => "short-header",
-        PageError::ShortDescriptor(_) => "short-descriptor",
-        PageError::GroupZero(_) => "group-zero",
-        PageError::GroupAbove(_) => "group-above",
-        PageError::StateBad(_) => "state-bad",
-        PageError::ShortList(_) => "short-list",
+        PageError::ShortHeader(_) => page_check_name(1),
+        PageError::ShortDescriptor(_) => page_check_name(2),
+        PageError::GroupZero(_) => page_check_name(3),
+        PageError::GroupAbove(_) => page_check_name(4),
+        PageError::StateBad(_) => page_check_name(5),
+        PageError::ShortList(_) => page_check_name(6),
         PageError::NoMemory => "",
     }
 }
@@ -109,11 +108,11 @@ fn put_box(
 fn put_boxes(
     text: &mut String,
     alloc: Global,
-    boxes: &[Items<u8>],
+    boxes: &[Vec<u8>],
     anagrpmax: u32,
 ) -> Result<(), PageError>
-    requires { All (λ page. length page ≤ 65536) boxes.now }
-    ensures told { OnOk result (string_bytes text.new ≡ string_bytes text.old ++ lines_from anagrpmax 0 boxes.now) }
+    requires { All (λ page. length page.items ≤ 65536) boxes.now }
+    ensures told { OnOk result (string_bytes text.new ≡ string_bytes text.old ++ lines_from anagrpmax 0 (map (λ v. v.items) boxes.now)) }
     ensures memory { IfErr result (λ e. e ≡ PageError.NoMemory) }
 {
     for (number, page) in boxes.iter().enumerate() {
@@ -133,9 +132,9 @@ fn put_boxes(
 ///
 /// `NoMemory` where memory runs out, and no other.
 #[tactic(auto, unfolding(crate::specs::Text::pages_text))]
-pub fn page_text(alloc: Global, boxes: &[Items<u8>], anagrpmax: u32) -> Result<Vec<u8>, PageError>
-    requires { All (λ page. length page ≤ 65536) boxes.now }
-    ensures text { IfOk result (λ v. v.items ≡ pages_text anagrpmax boxes.now) }
+pub fn page_text(alloc: Global, boxes: &[Vec<u8>], anagrpmax: u32) -> Result<Vec<u8>, PageError>
+    requires { All (λ page. length page.items ≤ 65536) boxes.now }
+    ensures text { IfOk result (λ v. v.items ≡ pages_text anagrpmax (map (λ v. v.items) boxes.now)) }
     ensures memory { IfErr result (λ e. e ≡ PageError.NoMemory) }
 {
     let mut text = String::new(alloc);

@@ -1,6 +1,6 @@
 -- What holds of the lanes of a text whose lines pass the checks.
 use Rattle.std.proofs.Common.{inl, inr, ◌≡◌, ℕ, suc, ◌+◌, ◌≤◌, Bool, true, false, List, [], ◌∷◌, ◌++◌, length, Option, Some, None, refl, sym, ap, ◌∙◌, append_assoc, zero-add, arith}
-use Rattle.std.specs.Prelude.{◌||◌, ◌&&◌, ◌==◌, not, nat_le, if◌then◌else◌, option_map, codes}
+use Rattle.std.specs.Prelude.{◌||◌, ◌&&◌, ◌==◌, not, nat_le, if◌then◌else◌, is_some, option_map, option_and_then, codes}
 use Rattle.std.specs.Option.{option_to_list}
 use Rattle.std.specs.List.{flat_map, AllByRecursion}
 use Rattle.std.proofs.lemmas.Bool.{cases_Bool}
@@ -9,19 +9,23 @@ use Rattle.std.proofs.lemmas.List.{append-nil, length-append}
 use Rattle.mp_checks.specs.Checks.{first_fault, each_from, or_else, AllPass}
 use Rattle.mp_checks.specs.Marks.{has}
 use Rattle.mp_checks.proofs.CheckLaws.{fault_append}
+use Rattle.mp_words.specs.Names.{policy_named, cstate_named}
+use Rattle.mp_words.specs.declared.row.CState.{CState}
 use Rattle.mp_topology.specs.declared.topology.Topology.{Topology}
 use Rattle.mp_topology.specs.declared.topology.Controller.{Controller}
-use Rattle.mp_script.specs.Words.{value_of}
-use Rattle.mp_script.specs.Shape.{Shape, skipped, unknown, answer, lane, keeper, submit, finish, shape_of, is_word}
+use Rattle.mp_script.specs.Splitting.{value_of}
+use Rattle.mp_script.specs.Shape.{Shape, skipped, unknown, answer, lane, keeper, submit, finish, log, ctrl, anatt, add, remove, policy, shape_of, is_word}
 use Rattle.mp_script.specs.Before.{Before, before, begins_lane, each_of, submitted_of, answer_of, submitted_in, repeats, lanes_in}
 use Rattle.mp_script.specs.Lines.{line_checks, shape_checks, built_checks, is_built, is_within}
-use Rattle.mp_script.specs.Plans.{finish_of, line_of, numbered, body, plans}
+use Rattle.mp_script.specs.Wording.{place_in}
+use Rattle.mp_script.specs.Plans.{finish_of, page_of, line_of, numbered, body, plans}
 use Rattle.mp_script.specs.Script.{script_of}
 use Rattle.mp_script.specs.Building.{noted}
 use Rattle.mp_script.specs.Distinct.{IsDistinct}
 use Rattle.mp_script.specs.Facts.{submit_of, submits_of, submits_in, IsScript, IsSimple, AreSimple, IsBuilt}
 use Rattle.mp_script.specs.declared.errors.ScriptError.TheVariants as errors
 use Rattle.mp_script.specs.declared.script.Line.{Line}
+use Rattle.mp_script.specs.declared.script.Line.TheVariants as line
 use Rattle.mp_script.specs.declared.script.Numbered1.{Numbered1}
 use Rattle.mp_script.specs.declared.script.LanePlan.{LanePlan}
 use Rattle.mp_script.proofs.Steps.{before_append, checks_here}
@@ -37,9 +41,13 @@ pub none_parts : {E : Type 0} (a b : Option E) → or_else a b ≡ None → (a �
 none_parts None b e = (refl, e)
 none_parts (Some x) b e = absurd cc
 
+pub some_is : {X : Type 0} (o : Option X) → is_some o ≡ true → (x : X) × (o ≡ Some x)
+some_is None h = absurd cc
+some_is (Some x) h = (x, refl)
+
 -- ---- numbers that differ
 
-has_push : (ns : List ℕ) (r n : ℕ) → has (ns ++ r ∷ []) n ≡ (has ns n || (r == n))
+pub has_push : (ns : List ℕ) (r n : ℕ) → has (ns ++ r ∷ []) n ≡ (has ns n || (r == n))
 has_push [] r n = elim (cases_Bool (r == n)) [ inl e ↦ rw e refl | inr e ↦ rw e refl ]
 has_push (m ∷ ns) r n = elim (cases_Bool (m == n)) [ inl e ↦ rw e refl | inr e ↦ rw e (has_push ns r n) ]
 
@@ -135,7 +143,7 @@ one_most : {X Y : Type 0} (f : X → Y) (o : Option X) → length (option_to_lis
 one_most f None = omega arith
 one_most f (Some x) = omega arith
 
-abbrev numbered_by : ℕ → Line → Numbered1
+abbrev pub numbered_by : ℕ → Line → Numbered1
 numbered_by n x = record { number = n; line = x }
 
 lines_count : (cs : List Controller) (n : ℕ) (ls : List (List ℕ)) → length (body cs n ls) + length (lines_in (plans cs n ls)) ≤ length ls
@@ -158,10 +166,25 @@ finish_submits : (w : List ℕ) → submit_of (finish_of w) ≡ []
 unfolding finish_of
 finish_submits w = elim (cases_Bool (is_word w (codes "all"))) [ inl e ↦ rw e refl | inr e ↦ rw e refl ]
 
+-- what is made of something submits nothing, where nothing that is made so does
+none_submits : {X : Type 0} (n : ℕ) (f : X → Line) (o : Option X) → ((x : X) → submit_of (f x) ≡ []) → submits_of (option_to_list (option_map (numbered_by n) (option_map f o))) ≡ []
+none_submits n f None none = refl
+none_submits n f (Some x) none = rw (none x) refl
+
+ctrl_submits : (n : ℕ) (o : Option ℕ) (s : Option CState) → submits_of (option_to_list (option_map (numbered_by n) (option_and_then (λ c. option_map (line.Ctrl c) s) o))) ≡ []
+ctrl_submits n None s = refl
+ctrl_submits n (Some c) s = none_submits n (line.Ctrl c) s (λ x. refl)
+
 submits_one : (cs : List Controller) (n : ℕ) (s : Shape) → submits_of (numbered cs n s) ≡ option_to_list (submitted_of s)
 unfolding line_of
 submits_one cs n (submit r k) = refl
 submits_one cs n (finish r) = rw (finish_submits r) refl
+submits_one cs n (log c k) = none_submits n (λ p. line.Log p (value_of k)) (place_in cs c) (λ x. refl)
+submits_one cs n (ctrl c s) = ctrl_submits n (place_in cs c) (cstate_named s)
+submits_one cs n (anatt c) = none_submits n line.Anatt (place_in cs c) (λ x. refl)
+submits_one cs n (add c k) = none_submits n (λ p. line.Add p (page_of k)) (place_in cs c) (λ x. refl)
+submits_one cs n (remove c) = none_submits n line.Remove (place_in cs c) (λ x. refl)
+submits_one cs n (policy p) = none_submits n line.Policy (policy_named p) (λ x. refl)
 submits_one cs n _ = refl
 
 submits_append : (xs ys : List Numbered1) → submits_of (xs ++ ys) ≡ submits_of xs ++ submits_of ys

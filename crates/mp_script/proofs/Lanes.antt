@@ -6,8 +6,8 @@ use Rattle.std.specs.List.{list_any}
 use Rattle.std.proofs.lemmas.Bool.{cases_Bool}
 use Rattle.std.proofs.lemmas.Bool.Decides.{nat_tests}
 use Rattle.std.proofs.lemmas.List.{append-nil}
-use Rattle.mp_checks.specs.Marks.{IsTable}
-use Rattle.mp_script.specs.Words.{lines_of}
+use Rattle.mp_checks.specs.Marks.{has, HaveSame}
+use Rattle.mp_script.specs.Splitting.{lines_of}
 use Rattle.mp_script.specs.Shape.{Shape, shape_of}
 use Rattle.mp_script.specs.Before.{begins_lane, each_of, in_lanes, right_submit, submit_in, submitted_in}
 
@@ -34,28 +34,36 @@ submits_append nodes (x ∷ ls) l = elim (cases_Bool (begins_lane (shape_of x)))
   | inr e ↦ rw e (submits_append nodes ls l)
 ]
 
--- What was marked of a text: the lines so far and those that are left are its lines, and the table has what the lines
--- so far submit.
-pub record AreMarked (nodes : ℕ) (bytes rest : List ℕ) (begun : Bool) (bits : List Bool) : Type 0 where
+-- What was marked of a text: the lines so far and those that are left are its lines, and the requests are those that the
+-- lines so far submit.
+pub record AreMarked (nodes : ℕ) (bytes rest : List ℕ) (begun : Bool) (submits : List ℕ) : Type 0 where
   pub done : List (List ℕ)
   pub parts : done ++ lines_of rest ≡ lines_of bytes
   pub begins : begun ≡ have_begun done
-  pub table : IsTable 65536 bits (each_of (right_submit nodes) (in_lanes done))
+  pub same : HaveSame submits (each_of (right_submit nodes) (in_lanes done))
 
-pub marked_start : (nodes : ℕ) (bytes : List ℕ) (bits : List Bool) → IsTable 65536 bits [] → AreMarked nodes bytes bytes false bits
-marked_start nodes bytes bits table = record { done = []; parts = refl; begins = refl; table = table }
+pub marked_start : (nodes : ℕ) (bytes submits : List ℕ) → submits ≡ [] → AreMarked nodes bytes bytes false submits
+marked_start nodes bytes submits none = record { done = []; parts = refl; begins = refl; same = λ n. rw none refl }
+
+-- what is put behind lists with the same numbers
+has_both : (xs ys : List ℕ) (n : ℕ) → has (xs ++ ys) n ≡ (has xs n || has ys n)
+has_both [] ys n = refl
+has_both (x ∷ xs) ys n = elim (cases_Bool (x == n)) [ inl e ↦ rw e refl | inr e ↦ rw e (has_both xs ys n) ]
+
+pub same_behind : (ms ns more : List ℕ) → HaveSame ms ns → HaveSame (ms ++ more) (ns ++ more)
+same_behind ms ns more same = λ n. has_both ms more n ∙ rw (same n) (sym (has_both ns more n))
 
 -- a line more
 pub parts_more : (done : List (List ℕ)) (line rest after bytes : List ℕ) → lines_of rest ≡ line ∷ lines_of after → done ++ lines_of rest ≡ lines_of bytes → (done ++ line ∷ []) ++ lines_of after ≡ lines_of bytes
 parts_more done line rest after bytes cut parts = append_assoc done (line ∷ []) (lines_of after) ∙ ap (λ (ls : List (List ℕ)). done ++ ls) (sym cut) ∙ parts
 
-pub marked_more : (nodes : ℕ) (bytes rest line after : List ℕ) (begun begun' : Bool) (bits bits' : List Bool) (s : Shape) → AreMarked nodes bytes rest begun bits → lines_of rest ≡ line ∷ lines_of after → s ≡ shape_of line
-    → ((ns : List ℕ) → IsTable 65536 bits ns → IsTable 65536 bits' (ns ++ option_to_list (submit_in nodes begun s))) → begun' ≡ (begun || begins_lane s) → AreMarked nodes bytes after begun' bits'
-marked_more nodes bytes rest line after begun begun' bits bits' s m cut is mark begins = record {
+pub marked_more : (nodes : ℕ) (bytes rest line after : List ℕ) (begun begun' : Bool) (submits submits' : List ℕ) (s : Shape) → AreMarked nodes bytes rest begun submits → lines_of rest ≡ line ∷ lines_of after → s ≡ shape_of line
+    → HaveSame submits' (submits ++ option_to_list (submit_in nodes begun s)) → begun' ≡ (begun || begins_lane s) → AreMarked nodes bytes after begun' submits'
+marked_more nodes bytes rest line after begun begun' submits submits' s m cut is mark begins = record {
   done = m.done ++ line ∷ [];
   parts = parts_more m.done line rest after bytes cut m.parts;
   begins = begins ∙ rw (m.begins, is, begun_append m.done line) refl;
-  table = rw (submits_append nodes m.done line, ← m.begins, ← is) (mark _ m.table);
+  same = rw (submits_append nodes m.done line, ← m.begins, ← is) (λ n. mark n ∙ same_behind submits _ (option_to_list (submit_in nodes begun s)) m.same n);
 }
 
 -- nothing has no lines
@@ -63,8 +71,8 @@ pub no_lines : (rest : List ℕ) → true ≡ (length rest == 0) → lines_of re
 no_lines [] e = refl
 no_lines (b ∷ rest) e = absurd (grind (arith, nat_tests))
 
-pub marked_end : (nodes : ℕ) (bytes rest : List ℕ) (begun : Bool) (bits : List Bool) → AreMarked nodes bytes rest begun bits → true ≡ (length rest == 0) → IsTable 65536 bits (submitted_in nodes (lines_of bytes))
+pub marked_end : (nodes : ℕ) (bytes rest : List ℕ) (begun : Bool) (submits : List ℕ) → AreMarked nodes bytes rest begun submits → true ≡ (length rest == 0) → HaveSame submits (submitted_in nodes (lines_of bytes))
 unfolding submitted_in
-marked_end nodes bytes rest begun bits m over =
+marked_end nodes bytes rest begun submits m over =
     let all : m.done ≡ lines_of bytes = sym (append-nil m.done) ∙ ap (λ (ls : List (List ℕ)). m.done ++ ls) (sym (no_lines rest over)) ∙ m.parts in
-    rw (← all) m.table
+    rw (← all) m.same

@@ -1,11 +1,11 @@
 pub mod Pieces
-pub mod Hex
 pub mod Entries
 pub mod Ordered
 pub mod Lanes
 pub mod Steps
 pub mod ReadFacts
 pub mod Holding
+pub mod Marked
 pub mod PlaceMap
 pub mod Over
 pub mod WrittenParts

@@ -1,6 +1,6 @@
 -- What the lines of a text name, where they pass the checks.
 use Rattle.std.proofs.Common.{◌⊎◌, inl, inr, ◌≡◌, ◌==◌, ℕ, zero, suc, ◌+◌, ◌<◌, ◌≤◌, Bool, true, false, List, [], ◌∷◌, ◌++◌, length, map, nat_lt, nat_le, Option, Some, None, refl, sym, ◌∙◌, append_assoc, arith}
-use Rattle.std.specs.Prelude.{◌||◌, ◌&&◌, not, is_some, if◌then◌else◌, codes, filter, slice_get, option_and_then, unwrap_or, HoldsAt}
+use Rattle.std.specs.Prelude.{◌||◌, ◌&&◌, not, is_some, if◌then◌else◌, codes, filter, slice_get, option_and_then, HoldsAt, option_map}
 use Rattle.std.specs.Str.{bytes_eq}
 use Rattle.std.specs.Option.{option_to_list}
 use Rattle.std.specs.List.{list_any, AllByRecursion}
@@ -11,22 +11,25 @@ use Rattle.std.proofs.lemmas.List.Quantifiers.{position-Some}
 use Rattle.mp_checks.specs.Checks.{first_fault, each_from}
 use Rattle.mp_checks.specs.Marks.{has}
 use Rattle.mp_checks.proofs.CheckLaws.{fault_append}
+use Rattle.mp_words.specs.declared.row.CState.{CState}
+use Rattle.mp_words.specs.Names.{policy_named, cstate_named}
 use Rattle.mp_topology.specs.Controllers.{place_of}
 use Rattle.mp_topology.specs.declared.topology.Controller.{Controller}
 use Rattle.mp_topology.specs.declared.topology.Topology.{Topology}
-use Rattle.mp_script.specs.Words.{value_of, is_in}
+use Rattle.mp_script.specs.Splitting.{value_of, is_in}
 use Rattle.mp_script.specs.Shape.{Shape, keeper, submit, finish, requeue, log, ctrl, anatt, add, remove, reap, policy, shape_of, is_word}
-use Rattle.mp_script.specs.Named.{place_in, reports_ana, has_ana, is_there, has_box, is_node, has_numbers, is_named, is_submitted}
+use Rattle.mp_script.specs.Wording.{place_in, reports_ana, has_ana, is_there, has_box, is_node, has_numbers, is_named, is_submitted}
 use Rattle.mp_script.specs.Before.{Before, before, begins_lane, is_keeper, each_of, submitted_of, submitted_in, in_lanes, right_submit, repeats, lanes_in}
 use Rattle.mp_script.specs.Lines.{line_checks, shape_checks, is_keepers}
-use Rattle.mp_script.specs.Plans.{ctrl_of, page_of, finish_of, line_of, numbered, body, plans}
+use Rattle.mp_script.specs.Plans.{page_of, finish_of, line_of, numbered, body, plans}
 use Rattle.mp_script.specs.Script.{script_of}
 use Rattle.mp_script.specs.Building.{noted}
 use Rattle.mp_script.specs.Facts.{submits_in, HasAna, Adds, IsLine, AreLines, IsOver}
+use Rattle.mp_script.specs.declared.script.Line.TheVariants as line
 use Rattle.mp_script.specs.declared.script.Numbered1.{Numbered1}
 use Rattle.mp_script.specs.declared.script.LanePlan.{LanePlan}
 use Rattle.mp_script.proofs.Steps.{before_append, checks_here, lanes_append}
-use Rattle.mp_script.proofs.Holding.{passes, none_parts, from_not, submits_all}
+use Rattle.mp_script.proofs.Holding.{passes, none_parts, some_is, numbered_by, from_not, submits_all}
 
 -- ---- controllers
 
@@ -36,26 +39,21 @@ place_within cs w p e =
     let found = position-Some (λ x. bytes_eq x w) (map (λ (c : Controller). c.name) cs) p [] e in
     omega (arith, found.0, length-map cs (λ (c : Controller). c.name))
 
-there_at : (cs : List Controller) (w : List ℕ) (o : Option ℕ) → place_in cs w ≡ o → is_some o ≡ true → unwrap_or o 0 < length cs
-there_at cs w None e h = absurd cc
-there_at cs w (Some p) e h = place_within cs w p e
-
-there_is : (cs : List Controller) (w : List ℕ) → is_there cs w ≡ true → ctrl_of cs w < length cs
-unfolding is_there ctrl_of
-there_is cs w h = there_at cs w (place_in cs w) refl h
+there_is : (cs : List Controller) (w : List ℕ) → is_there cs w ≡ true → (p : ℕ) × (place_in cs w ≡ Some p) × (p < length cs)
+unfolding is_there
+there_is cs w h = let found = some_is (place_in cs w) h in (found.0, found.1, place_within cs w found.0 found.1)
 
 ana_at : (cs : List Controller) (p : ℕ) (ana : Bool) → p < length cs → reports_ana (slice_get cs p) ≡ ana → HoldsAt (λ c. c.ana ≡ ana) cs p
 ana_at [] p ana lt h = absurd (omega arith)
 ana_at (c ∷ cs) zero ana lt h = λ d. h
 ana_at (c ∷ cs) (suc p) ana lt h = ana_at cs p ana (omega arith) h
 
-ana_place : (cs : List Controller) (w : List ℕ) (ana : Bool) (o : Option ℕ) → place_in cs w ≡ o → is_some o ≡ true → reports_ana (option_and_then (slice_get cs) o) ≡ ana → HasAna ana cs (unwrap_or o 0)
-ana_place cs w ana None e there h = absurd cc
-ana_place cs w ana (Some p) e there h = (place_within cs w p e, ana_at cs p ana (place_within cs w p e) h)
-
-ana_is : (cs : List Controller) (w : List ℕ) (ana : Bool) → is_there cs w ≡ true → has_ana cs w ≡ ana → HasAna ana cs (ctrl_of cs w)
-unfolding is_there has_ana ctrl_of
-ana_is cs w ana there h = ana_place cs w ana (place_in cs w) refl there h
+ana_is : (cs : List Controller) (w : List ℕ) (ana : Bool) → is_there cs w ≡ true → has_ana cs w ≡ ana → (p : ℕ) × (place_in cs w ≡ Some p) × HasAna ana cs p
+unfolding has_ana
+ana_is cs w ana there h =
+    let found = there_is cs w there in
+    let here : reports_ana (slice_get cs found.0) ≡ ana = rw found.1 at h in
+    (found.0, found.1, (found.2, ana_at cs found.0 ana found.2 here))
 
 -- ---- one line
 
@@ -71,13 +69,24 @@ keeper_is : (k : Bool) → not (not k) ≡ true → k ≡ true
 keeper_is true h = refl
 keeper_is false h = absurd cc
 
-add_over : (cs : List Controller) (pages : ℕ) (c k : List ℕ) → (is_there cs c && (if is_word k (codes "-") then not (has_ana cs c) else has_ana cs c && has_box pages k)) ≡ true → Adds cs pages (ctrl_of cs c) (page_of k)
+adds_none : (cs : List Controller) (pages p : ℕ) (k : List ℕ) → is_word k (codes "-") ≡ true → HasAna false cs p → Adds cs pages p (page_of k)
 unfolding page_of
+adds_none cs pages p k e h = rw e h
+
+adds_some : (cs : List Controller) (pages p : ℕ) (k : List ℕ) → is_word k (codes "-") ≡ false → HasAna true cs p → value_of k < pages → Adds cs pages p (page_of k)
+unfolding page_of
+adds_some cs pages p k e h lt = rw e (h, lt)
+
+add_over : (cs : List Controller) (pages : ℕ) (c k : List ℕ) → (is_there cs c && (if is_word k (codes "-") then not (has_ana cs c) else has_ana cs c && has_box pages k)) ≡ true
+    → (p : ℕ) × (place_in cs c ≡ Some p) × Adds cs pages p (page_of k)
 add_over cs pages c k h =
     let p = and_parts (is_there cs c) _ h in
     elim (cases_Bool (is_word k (codes "-"))) [
-      | inl e ↦ rw e (ana_is cs c false p.0 (from_not (has_ana cs c) (rw e at p.1)))
-      | inr e ↦ let q = and_parts (has_ana cs c) (has_box pages k) (rw e at p.1) in rw e (ana_is cs c true p.0 q.0, box_is pages k q.1)
+      | inl e ↦ let a = ana_is cs c false p.0 (from_not (has_ana cs c) (rw e at p.1)) in (a.0, a.1, adds_none cs pages a.0 k e a.2)
+      | inr e ↦
+          let q = and_parts (has_ana cs c) (has_box pages k) (rw e at p.1) in
+          let a = ana_is cs c true p.0 q.0 in
+          (a.0, a.1, adds_some cs pages a.0 k e a.2 (box_is pages k q.1))
     ]
 
 finish_over : (t : Topology) (pages : ℕ) (ns submits : List ℕ) (k : Bool) (r : List ℕ) → (is_word r (codes "all") || has ns (value_of r)) ≡ true → ((n : ℕ) → has ns n ≡ true → has submits n ≡ true) → IsLine t pages submits k (finish_of r)
@@ -86,6 +95,10 @@ finish_over t pages ns submits k r h some = elim (cases_Bool (is_word r (codes "
   | inl e ↦ rw e tt
   | inr e ↦ rw e (some (value_of r) (rw e at h))
 ]
+
+ctrl_over : (t : Topology) (pages : ℕ) (submits : List ℕ) (k : Bool) (n : ℕ) (o : Option ℕ) (q : Option CState) (c : ℕ) (s : CState) → o ≡ Some c → q ≡ Some s → c < length t.controllers
+    → AreLines t pages submits k (option_to_list (option_map (numbered_by n) (option_and_then (λ c. option_map (line.Ctrl c) q) o)))
+ctrl_over t pages submits k n o q c s e f lt = rw (e, f) (lt, tt)
 
 line_over : (t : Topology) (pages : ℕ) (ns submits : List ℕ) (k : Bool) (n : ℕ) (s : Shape) → has_numbers t.near.nodes s ≡ true → is_named t.controllers pages s ≡ true → is_submitted ns s ≡ true → not (is_keepers s && not k) ≡ true
     → ((r : ℕ) → has ns r ≡ true → has submits r ≡ true) → AreLines t pages submits k (numbered t.controllers n s)
@@ -96,13 +109,20 @@ line_over t pages ns submits k n requeue numbers named sub keepers some = (tt, t
 line_over t pages ns submits k n (log c b) numbers named sub keepers some =
     let p = and_parts (is_there t.controllers c) (has_ana t.controllers c && has_box pages b) named in
     let q = and_parts (has_ana t.controllers c) (has_box pages b) p.1 in
-    ((ana_is t.controllers c true p.0 q.0, box_is pages b q.1), tt)
-line_over t pages ns submits k n (ctrl c st) numbers named sub keepers some = (there_is t.controllers c (and_parts (is_there t.controllers c) _ named).0, tt)
-line_over t pages ns submits k n (anatt c) numbers named sub keepers some = (there_is t.controllers c named, tt)
-line_over t pages ns submits k n (add c b) numbers named sub keepers some = ((keeper_is k keepers, add_over t.controllers pages c b named), tt)
-line_over t pages ns submits k n (remove c) numbers named sub keepers some = ((keeper_is k keepers, there_is t.controllers c named), tt)
+    let a = ana_is t.controllers c true p.0 q.0 in
+    rw a.1 ((a.2, box_is pages b q.1), tt)
+line_over t pages ns submits k n (ctrl c st) numbers named sub keepers some =
+    let p = and_parts (is_there t.controllers c) (is_some (cstate_named st)) named in
+    let a = there_is t.controllers c p.0 in
+    let s = some_is (cstate_named st) p.1 in
+    ctrl_over t pages submits k n (place_in t.controllers c) (cstate_named st) a.0 s.0 a.1 s.1 a.2
+line_over t pages ns submits k n (anatt c) numbers named sub keepers some = let a = there_is t.controllers c named in rw a.1 (a.2, tt)
+line_over t pages ns submits k n (add c b) numbers named sub keepers some =
+    let a = add_over t.controllers pages c b named in
+    rw a.1 ((keeper_is k keepers, a.2), tt)
+line_over t pages ns submits k n (remove c) numbers named sub keepers some = let a = there_is t.controllers c named in rw a.1 ((keeper_is k keepers, a.2), tt)
 line_over t pages ns submits k n reap numbers named sub keepers some = (keeper_is k keepers, tt)
-line_over t pages ns submits k n (policy p) numbers named sub keepers some = (keeper_is k keepers, tt)
+line_over t pages ns submits k n (policy p) numbers named sub keepers some = let s = some_is (policy_named p) named in rw s.1 (keeper_is k keepers, tt)
 line_over t pages ns submits k n _ numbers named sub keepers some = tt
 
 -- ---- the lanes

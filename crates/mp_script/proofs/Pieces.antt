@@ -5,7 +5,7 @@ use Rattle.std.specs.List.{list_all}
 use Rattle.std.proofs.Math.ListN.{drop_of_length-le}
 use Rattle.std.proofs.lemmas.Bool.{false≢true, cases_lt, and_parts}
 use Rattle.std.proofs.lemmas.List.{drop_more, take_all, take-append-drop, drop-drop, append-nil, length-drop}
-use Rattle.mp_script.specs.Words.{lines_of, words_of, is_blank, goes_on}
+use Rattle.mp_script.specs.Splitting.{lines_of, words_of, is_blank, goes_on}
 
 abbrev pub no_feed : List ℕ → Bool
 no_feed = list_all (λ b. not (b == 10))

@@ -1,11 +1,10 @@
 -- What holds of a text that passes the checks.
-use Rattle.std.proofs.Common.{◌⊎◌, inl, inr, ◌≡◌, ℕ, Bool, List, ◌++◌, Option, Some, None, Result, Ok, Err, refl, sym, ◌∙◌}
+use Rattle.std.proofs.Common.{◌⊎◌, inl, inr, ◌≡◌, ℕ, List, ◌++◌, Option, Some, None, Result, Ok, Err, refl, sym, ◌∙◌}
 use Rattle.std.specs.Prelude.{IfOk, IfErr}
-use Rattle.mp_checks.specs.Checks.{first_fault, each_from, or_else, Reads, Answers}
+use Rattle.mp_checks.specs.Checks.{first_fault, each_from, or_else, Reads}
 use Rattle.mp_checks.proofs.CheckLaws.{fault_append, each_least}
-use Rattle.mp_topology.specs.Unless.{value_unless}
 use Rattle.mp_topology.specs.declared.topology.Topology.{Topology}
-use Rattle.mp_script.specs.Words.{lines_of}
+use Rattle.mp_script.specs.Splitting.{lines_of}
 use Rattle.mp_script.specs.Script.{checks, script_of, IsLeastFault}
 use Rattle.mp_script.specs.Lines.{byte_checks, line_checks, built_checks}
 use Rattle.mp_script.specs.declared.errors.ScriptError.{ScriptError}
@@ -15,11 +14,7 @@ use Rattle.mp_script.specs.Facts.{IsScript, IsBuilt, IsOver}
 use Rattle.mp_script.proofs.Over.{over_facts}
 use Rattle.mp_script.proofs.Holding.{script_facts, built_facts}
 
--- ---- the answer
-
-pub reads_answers : {V E : Type 0} (memory : E) (r : Result V E) (cs : List (Bool × E)) (value : V) → Reads memory r cs value → Answers memory r (value_unless (first_fault cs) value)
-reads_answers memory (Ok v) cs value (pass, is) = rw (pass, is) refl
-reads_answers memory (Err e) cs value refused = λ ne. rw (refused ne) refl
+-- ---- which check fails
 
 none_parts : {E : Type 0} (a b : Option E) → or_else a b ≡ None → (a ≡ None) × (b ≡ None)
 none_parts None b e = (refl, e)

@@ -7,7 +7,7 @@ use Rattle.mp_script.specs.declared.errors.ScriptError.{ScriptError}
 use Rattle.mp_script.specs.declared.script.Script.{Script}
 use Rattle.mp_script.specs.Readable.{Says}
 use Rattle.mp_script.specs.Script.{checks, script_of, script_in}
-use Rattle.mp_script.specs.Words.{lines_of}
+use Rattle.mp_script.specs.Splitting.{lines_of}
 
 abbrev Is : Topology → ℕ → List ℕ → Type 0
 Is t pages bytes =

@@ -6,23 +6,24 @@ use Rattle.std.specs.List.{list_any, last_or}
 use Rattle.std.proofs.lemmas.Bool.{cases_Bool}
 use Rattle.std.proofs.lemmas.List.{append-nil, length-append}
 use Rattle.mp_checks.specs.Checks.{first_fault, each_from, or_else}
-use Rattle.mp_checks.specs.Marks.{IsTable}
+use Rattle.mp_checks.specs.Marks.{HaveSame}
 use Rattle.mp_checks.proofs.CheckLaws.{fault_append, each_append}
 use Rattle.mp_words.specs.Answers.{in_order}
 use Rattle.mp_topology.specs.declared.topology.Topology.{Topology}
 use Rattle.mp_topology.specs.declared.topology.Controller.{Controller}
-use Rattle.mp_script.specs.Words.{lines_of}
-use Rattle.mp_script.specs.Shape.{Shape, keeper, shape_of}
+use Rattle.mp_script.specs.Splitting.{lines_of, value_of}
+use Rattle.mp_script.specs.Wording.{is_submitted}
+use Rattle.mp_script.specs.Shape.{Shape, keeper, finish, shape_of}
 use Rattle.mp_script.specs.Before.{Before, begins_lane, is_keeper, lanes_in, before, each_of, submitted_of, answer_of, submitted_in}
 use Rattle.mp_script.specs.Lines.{shape_checks, line_checks, is_built, built_checks}
 use Rattle.mp_script.specs.Plans.{numbered, body, plans}
-use Rattle.mp_script.specs.Building.{IsKnown, noted, with_lines, put}
+use Rattle.mp_script.specs.Building.{IsEarlier, noted, with_lines, put}
 use Rattle.mp_script.specs.declared.errors.ScriptError.{ScriptError}
 use Rattle.mp_script.specs.declared.errors.ScriptError.TheVariants as errors
 use Rattle.mp_script.specs.declared.script.Numbered1.{Numbered1}
 use Rattle.mp_script.specs.declared.script.LanePlan.{LanePlan}
 use Rattle.mp_script.specs.declared.building.Building.{Building}
-use Rattle.mp_script.specs.declared.reading.Reading.{Reading}
+use Rattle.mp_script.specs.declared.progress.Progress.{Progress}
 use Rattle.mp_script.proofs.Lanes.{each_of_append, parts_more, no_lines}
 
 -- ---- what stands before a line
@@ -48,7 +49,7 @@ keeper_begins : (s : Shape) → begins_lane s ≡ false → is_keeper s ≡ fals
 keeper_begins keeper e = absurd cc
 keeper_begins _ e = refl
 
-or_false : (b : Bool) → b ≡ (b || false)
+pub or_false : (b : Bool) → b ≡ (b || false)
 or_false true = refl
 or_false false = refl
 
@@ -82,12 +83,12 @@ lanes_step cs b n l rest = elim (cases_Bool (begins_lane (shape_of l))) [
 -- ---- a text read so far
 
 -- The lines so far and those that are left are the text's. No line so far has a fault, and what was read of them is right.
-pub record IsAt (t : Topology) (pages : ℕ) (bytes rest : List ℕ) (r : Reading) : Type 0 where
+pub record IsAt (t : Topology) (pages : ℕ) (bytes rest : List ℕ) (r : Progress) : Type 0 where
   pub done : List (List ℕ)
   pub parts : done ++ lines_of rest ≡ lines_of bytes
   pub number : r.number ≡ length done
   pub pass : first_fault (each_from (line_checks t pages (lines_of bytes)) 0 done) ≡ None
-  pub known : IsKnown r.known (before done)
+  pub known : IsEarlier r.earlier (before done)
   pub lanes : lanes_from t.controllers r.building (r.number + 1) (lines_of rest) ≡ plans t.controllers 1 (lines_of bytes)
 
 take_done : (done : List (List ℕ)) (l : List ℕ) (rest : List (List ℕ)) → take (length done) (done ++ l ∷ rest) ≡ done
@@ -116,25 +117,35 @@ goes_on_here f done l pass here = each_here f done l [] ∙ rw (pass, here) refl
 lines_parts : (done : List (List ℕ)) (line rest after bytes : List ℕ) → lines_of rest ≡ line ∷ lines_of after → done ++ lines_of rest ≡ lines_of bytes → done ++ line ∷ lines_of after ≡ lines_of bytes
 lines_parts done line rest after bytes cut parts = ap (λ (ls : List (List ℕ)). done ++ ls) (sym cut) ∙ parts
 
-pub at_stops : (t : Topology) (pages : ℕ) (bytes rest line after : List ℕ) (bits : List Bool) (r : Reading) (fault : ScriptError) → IsAt t pages bytes rest r → lines_of rest ≡ line ∷ lines_of after
-    → IsTable 65536 bits (submitted_in t.near.nodes (lines_of bytes))
-    → ((b : Before) (ns : List ℕ) → IsKnown r.known b → IsTable 65536 bits ns → first_fault (shape_checks t pages ns b (r.number + 1) (shape_of line)) ≡ Some fault)
+-- the checks look at which requests are submitted alone
+submitted_same : (ms ns : List ℕ) (s : Shape) → HaveSame ms ns → is_submitted ms s ≡ is_submitted ns s
+unfolding is_submitted
+submitted_same ms ns (finish r) same = rw (same (value_of r)) refl
+submitted_same ms ns _ same = refl
+
+same_checks : (t : Topology) (pages : ℕ) (ms ns : List ℕ) (b : Before) (n : ℕ) (s : Shape) → HaveSame ms ns → shape_checks t pages ms b n s ≡ shape_checks t pages ns b n s
+unfolding shape_checks
+same_checks t pages ms ns b n s same = rw (submitted_same ms ns s same) refl
+
+pub at_stops : (t : Topology) (pages : ℕ) (bytes rest line after submits : List ℕ) (r : Progress) (fault : ScriptError) → IsAt t pages bytes rest r → lines_of rest ≡ line ∷ lines_of after
+    → HaveSame submits (submitted_in t.near.nodes (lines_of bytes))
+    → ((b : Before) → IsEarlier r.earlier b → first_fault (shape_checks t pages submits b (r.number + 1) (shape_of line)) ≡ Some fault)
     → first_fault (each_from (line_checks t pages (lines_of bytes)) 0 (lines_of bytes)) ≡ Some fault
-at_stops t pages bytes rest line after bits r fault at cut table refused =
+at_stops t pages bytes rest line after submits r fault at cut same refused =
     let parts = lines_parts at.done line rest after bytes cut at.parts in
     let here : first_fault (line_checks t pages (lines_of bytes) (length at.done) line) ≡ Some fault =
-    rw (checks_here t pages at.done line (lines_of after) (lines_of bytes) parts, ← at.number) (refused (before at.done) (submitted_in t.near.nodes (lines_of bytes)) at.known table) in
+    rw (checks_here t pages at.done line (lines_of after) (lines_of bytes) parts, ← at.number) (ap first_fault (sym (same_checks t pages submits (submitted_in t.near.nodes (lines_of bytes)) (before at.done) (r.number + 1) (shape_of line) same)) ∙ refused (before at.done) at.known) in
     stops_here (line_checks t pages (lines_of bytes)) at.done line (lines_of after) (lines_of bytes) fault parts at.pass here
 
-pub at_more : (t : Topology) (pages : ℕ) (bytes rest line after : List ℕ) (bits : List Bool) (r next : Reading) → IsAt t pages bytes rest r → lines_of rest ≡ line ∷ lines_of after
-    → IsTable 65536 bits (submitted_in t.near.nodes (lines_of bytes))
-    → ((b : Before) (ns : List ℕ) → IsKnown r.known b → IsTable 65536 bits ns → first_fault (shape_checks t pages ns b (r.number + 1) (shape_of line)) ≡ None)
-    → ((b : Before) → IsKnown r.known b → IsKnown next.known (noted b (shape_of line)))
+pub at_more : (t : Topology) (pages : ℕ) (bytes rest line after submits : List ℕ) (r next : Progress) → IsAt t pages bytes rest r → lines_of rest ≡ line ∷ lines_of after
+    → HaveSame submits (submitted_in t.near.nodes (lines_of bytes))
+    → ((b : Before) → IsEarlier r.earlier b → first_fault (shape_checks t pages submits b (r.number + 1) (shape_of line)) ≡ None)
+    → ((b : Before) → IsEarlier r.earlier b → IsEarlier next.earlier (noted b (shape_of line)))
     → next.building ≡ put t.controllers r.building (r.number + 1) (shape_of line) → next.number ≡ r.number + 1 → IsAt t pages bytes after next
-at_more t pages bytes rest line after bits r next at cut table passed known building number =
+at_more t pages bytes rest line after submits r next at cut same passed known building number =
     let parts = lines_parts at.done line rest after bytes cut at.parts in
     let here : first_fault (line_checks t pages (lines_of bytes) (length at.done) line) ≡ None =
-    rw (checks_here t pages at.done line (lines_of after) (lines_of bytes) parts, ← at.number) (passed (before at.done) (submitted_in t.near.nodes (lines_of bytes)) at.known table) in
+    rw (checks_here t pages at.done line (lines_of after) (lines_of bytes) parts, ← at.number) (ap first_fault (sym (same_checks t pages submits (submitted_in t.near.nodes (lines_of bytes)) (before at.done) (r.number + 1) (shape_of line) same)) ∙ passed (before at.done) at.known) in
     record {
       done = at.done ++ line ∷ [];
       parts = parts_more at.done line rest after bytes cut at.parts;
@@ -144,7 +155,7 @@ at_more t pages bytes rest line after bits r next at cut table passed known buil
       lanes = rw (building, number) (lanes_step t.controllers r.building (r.number + 1) line (lines_of after) ∙ ap (lanes_from t.controllers r.building (r.number + 1)) (sym cut) ∙ at.lanes);
     }
 
-pub at_start : (t : Topology) (pages : ℕ) (bytes : List ℕ) (r : Reading) → r.number ≡ 0 → IsKnown r.known (before []) → r.building.done ≡ [] → r.building.current ≡ None → IsAt t pages bytes bytes r
+pub at_start : (t : Topology) (pages : ℕ) (bytes : List ℕ) (r : Progress) → r.number ≡ 0 → IsEarlier r.earlier (before []) → r.building.done ≡ [] → r.building.current ≡ None → IsAt t pages bytes bytes r
 at_start t pages bytes r number known none idle = record {
   done = [];
   parts = refl;
@@ -155,8 +166,8 @@ at_start t pages bytes r number known none idle = record {
 }
 
 -- at the end of the text
-pub at_end : (t : Topology) (pages : ℕ) (bytes rest : List ℕ) (r : Reading) → IsAt t pages bytes rest r → true ≡ (length rest == 0)
-    → (first_fault (each_from (line_checks t pages (lines_of bytes)) 0 (lines_of bytes)) ≡ None) × (r.known.answered ≡ in_order (each_of answer_of (lines_of bytes)))
+pub at_end : (t : Topology) (pages : ℕ) (bytes rest : List ℕ) (r : Progress) → IsAt t pages bytes rest r → true ≡ (length rest == 0)
+    → (first_fault (each_from (line_checks t pages (lines_of bytes)) 0 (lines_of bytes)) ≡ None) × (r.earlier.answered ≡ in_order (each_of answer_of (lines_of bytes)))
     × (r.building.done ++ option_to_list r.building.current ≡ plans t.controllers 1 (lines_of bytes)) × (length (lines_of bytes) ≡ r.number)
 unfolding before
 at_end t pages bytes rest r at over =

@@ -8,14 +8,15 @@ use Rattle.std.proofs.lemmas.List.{map-append, length-map}
 use Rattle.mp_checks.specs.Checks.{AllPass}
 use Rattle.mp_words.specs.declared.answers.Answer.{Answer}
 use Rattle.mp_words.specs.Answers.{is_of, is_earlier, IsAnswer, IsRising}
+use Rattle.mp_words.proofs.NameLaws.{status_read}
 use Rattle.mp_topology.specs.declared.topology.Topology.{Topology}
-use Rattle.mp_script.specs.Words.{number_of, value_of}
+use Rattle.mp_script.specs.Splitting.{number_of, value_of}
 use Rattle.mp_script.specs.Shape.{Shape, answer, shape_of}
-use Rattle.mp_script.specs.Named.{has_numbers, is_named, is_submitted}
+use Rattle.mp_script.specs.Wording.{has_numbers, is_named, is_submitted}
 use Rattle.mp_script.specs.Before.{each_of, submitted_of, answer_of, lanes_in, before, repeats}
 use Rattle.mp_script.specs.Lines.{shape_checks}
 use Rattle.mp_script.specs.Written.{status_word}
-use Rattle.mp_script.proofs.WrittenNumbers.{number_decimal, hex_status, plain_decimal, plain_status}
+use Rattle.mp_script.proofs.WrittenNumbers.{number_decimal, plain_decimal, plain_status}
 use Rattle.mp_script.proofs.WrittenWords.{is_plain}
 use Rattle.mp_script.proofs.WrittenShapes.{words_of_shape, text_of, shape_text}
 use Rattle.mp_script.proofs.WrittenPass.{PassFrom, length_more}
@@ -46,14 +47,14 @@ pub plain_answer : (a : Answer) → IsWritten a → list_all is_plain (words_of_
 plain_answer a is =
     let r = plain_decimal a.req (omega (arith, is.req)) in
     let n = plain_decimal a.attempt (omega (arith, is.answer.most)) in
-    let s = plain_status a.status (omega (arith, is.answer.status)) in
+    let s = plain_status a.status in
     rw (r, n, s) refl
 
 pub answer_read : (a : Answer) → IsWritten a → shape_of (answer_line a) ≡ answer_shape a
 answer_read a is = shape_text (answer_shape a) refl (plain_answer a is)
 
 answer_again : (a : Answer) → IsWritten a → answer_of (answer_shape a) ≡ Some a
-answer_again a is = rw (req_read a is, attempt_read a is, hex_status a.status (omega (arith, is.answer.status))) refl
+answer_again a is = rw (req_read a is, attempt_read a is, status_read a.status (omega (arith, is.answer.status))) refl
 
 answer_numbers : (nodes : ℕ) (a : Answer) → IsWritten a → has_numbers nodes (answer_shape a) ≡ true
 unfolding has_numbers
@@ -63,7 +64,7 @@ answer_numbers nodes a is =
     let n : nat_le 1 a.attempt ≡ true = grind (arith, nat_tests, is.answer.least) in
     let m : nat_le a.attempt 65535 ≡ true = grind (arith, nat_tests, is.answer.most) in
     let s : nat_le a.status 32767 ≡ true = grind (arith, nat_tests, is.answer.status) in
-    rw (req_read a is, attempt_read a is, hex_status a.status (omega (arith, is.answer.status)), z, r, n, m, s) refl
+    rw (req_read a is, attempt_read a is, status_read a.status (omega (arith, is.answer.status)), z, r, n, m, s) refl
 
 -- ---- all of them
 

@@ -1,18 +1,16 @@
 -- The canonical text is read as the same script.
-use Rattle.std.proofs.Common.{inl, inr, ◌≡◌, ℕ, suc, ◌+◌, ◌≤◌, Bool, true, List, [], ◌∷◌, ◌++◌, length, map, Option, Some, None, Ok, refl, sym, ap, subst, ◌∙◌, arith}
+use Rattle.std.proofs.Common.{inl, inr, ◌≡◌, ℕ, suc, ◌+◌, ◌≤◌, true, List, [], ◌∷◌, ◌++◌, length, map, None, Ok, refl, sym, ap, subst, ◌∙◌, arith}
 use Rattle.std.specs.List.{AllByRecursion, flat_map, join_with_byte, list_all}
 use Rattle.std.proofs.lemmas.Bool.{cases_Bool, and_parts}
 use Rattle.std.proofs.lemmas.List.{map-append, append-nil, length-append, length-map}
 use Rattle.std.proofs.lemmas.List.Folds.{list_all-append}
 use Rattle.mp_checks.specs.Checks.{AllPass, each_from, first_fault}
-use Rattle.mp_checks.proofs.CheckLaws.{pass_split, pass_join}
+use Rattle.mp_checks.proofs.CheckLaws.{pass_split, pass_join, all_pass, no_fault, unless_ok}
 use Rattle.mp_words.specs.declared.answers.Answer.{Answer}
 use Rattle.mp_words.specs.Answers.{in_order, IsAnswer, IsRising}
 use Rattle.mp_topology.specs.Facts.{IsTopology}
-use Rattle.mp_topology.specs.Unless.{value_unless}
 use Rattle.mp_topology.specs.declared.topology.Topology.{Topology}
-use Rattle.mp_topology.proofs.Passing.{all_pass}
-use Rattle.mp_script.specs.Words.{is_script_byte, lines_of}
+use Rattle.mp_script.specs.Splitting.{is_script_byte, lines_of}
 use Rattle.mp_script.specs.Shape.{Shape, skipped, unknown, answer, lane, keeper, submit, finish, requeue, log, ctrl, anatt, add, remove, reap, policy, shape_of}
 use Rattle.mp_script.specs.Before.{each_of, answer_of, submitted_of, submitted_in}
 use Rattle.mp_script.specs.Lines.{byte_checks, line_checks, built_checks, is_built}
@@ -230,14 +228,6 @@ canon_script t pages ls h =
     ∙ ap (λ n. plans_from n (plans t.controllers 1 ls)) none in
     rw (ordered, lanes) refl
 
-none_fails : {E : Type 0} (cs : List (Bool × E)) → AllPass cs → first_fault cs ≡ None
-none_fails [] h = refl
-none_fails (c ∷ cs) h = rw h.0 (none_fails cs h.1)
-
-ok_value : {V E : Type 0} (fault : Option E) (value v : V) → value_unless fault value ≡ Ok v → (fault ≡ None) × (value ≡ v)
-ok_value None value v e = (refl, cc)
-ok_value (Some fault) value v e = absurd cc
-
 passed_lines : (t : Topology) (pages : ℕ) (bytes : List ℕ) → IsTopology t → first_fault (checks t pages bytes) ≡ None → IsPassed t pages (lines_of bytes)
 unfolding checks
 passed_lines t pages bytes topology h =
@@ -252,13 +242,13 @@ passed_lines t pages bytes topology h =
 again_of : (t : Topology) (pages : ℕ) (ls : List (List ℕ)) → IsPassed t pages ls → script_in t pages (script_text t (script_of t.controllers ls)) ≡ Ok (renumbered (script_of t.controllers ls))
 unfolding script_in
 again_of t pages ls h =
-    rw (none_fails (checks t pages (script_text t (script_of t.controllers ls))) (text_checks t pages ls h), lines_of_script t pages ls h, canon_script t pages ls h) refl
+    rw (no_fault (checks t pages (script_text t (script_of t.controllers ls))) (text_checks t pages ls h), lines_of_script t pages ls h, canon_script t pages ls h) refl
 
 -- the canonical text of a script that was read is read as this script
 pub read_again : (t : Topology) (pages : ℕ) (bytes : List ℕ) (script : Script) → IsTopology t → script_in t pages bytes ≡ Ok script → IsReadAs t pages script (script_text t script)
 unfolding script_in
 read_again t pages bytes script topology h =
-    let p = ok_value (first_fault (checks t pages bytes)) (script_of t.controllers (lines_of bytes)) script h in
+    let p = unless_ok (first_fault (checks t pages bytes)) (script_of t.controllers (lines_of bytes)) script h in
     let passed = passed_lines t pages bytes topology p.0 in
     subst (λ s. IsReadAs t pages s (script_text t s)) p.1 (record { short = fits_of t pages (lines_of bytes) passed; read = again_of t pages (lines_of bytes) passed })
 

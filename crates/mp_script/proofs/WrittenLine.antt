@@ -1,36 +1,41 @@
 -- The line that is written of what a line asks for.
 use Rattle.std.proofs.Common.{inl, inr, ◌≡◌, ℕ, ◌<◌, ◌≤◌, Bool, true, false, ◌&&◌, List, [], ◌∷◌, length, map, Option, Some, None, refl, sym, arith}
-use Rattle.std.specs.Prelude.{not, nat_le, is_some, codes, if◌then◌else◌, unwrap_or, HoldsAt, All}
+use Rattle.std.specs.Prelude.{not, nat_le, is_some, codes, if◌then◌else◌, option_map, option_and_then, HoldsAt, All}
 use Rattle.std.specs.Option.{option_to_list}
 use Rattle.std.specs.List.{list_all}
 use Rattle.std.proofs.lemmas.Bool.{false≢true, and_parts, cases_Bool}
 use Rattle.std.proofs.lemmas.Bool.Decides.{nat_tests}
-use Rattle.std.specs.Str.{bytes_eq}
 use Rattle.mp_words.specs.declared.row.CState.{CState}
 use Rattle.mp_words.specs.declared.row.CState.TheVariants.{New, Live, Resetting, Connecting, Deleting, DeletingNoio, Dead}
 use Rattle.mp_words.specs.declared.row.Policy.{Policy}
 use Rattle.mp_words.specs.declared.row.Policy.TheVariants.{Numa, RoundRobin, QueueDepth}
-use Rattle.mp_topology.specs.Controllers.{is_letter, is_name_byte, is_name, state_named}
-use Rattle.mp_topology.specs.Topology.{policy_named}
+use Rattle.mp_words.specs.Names.{policy_named, cstate_named}
+use Rattle.mp_words.proofs.NameLaws.{policy_is_named, cstate_is_named}
+use Rattle.mp_topology.specs.Controllers.{is_letter, is_name_byte, is_name}
 use Rattle.mp_topology.specs.declared.topology.Controller.{Controller}
 use Rattle.mp_topology.specs.declared.topology.Topology.{Topology}
 use Rattle.mp_topology.proofs.Places.{placed_there}
 use Rattle.std.proofs.lemmas.Option.{slice_get-get_or}
 use Rattle.mp_script.specs.Shape.{Shape, skipped, unknown, answer, lane, keeper, submit, finish, requeue, log, ctrl, anatt, add, remove, reap, policy, is_word}
-use Rattle.mp_script.specs.Named.{has_numbers, is_named, has_box, has_ana, is_there, place_in}
+use Rattle.mp_script.specs.Wording.{has_numbers, is_named, has_box, has_ana, is_there, place_in}
 use Rattle.mp_script.specs.Before.{begins_lane}
-use Rattle.mp_script.specs.Plans.{line_of, page_of, finish_of, ctrl_of, state_of, policy_of}
+use Rattle.mp_script.specs.Plans.{line_of, page_of, finish_of}
 use Rattle.mp_script.specs.Written.{name_of, cstate_word, policy_word, line_words}
+use Rattle.mp_script.specs.declared.script.Line.TheVariants as line
+use Rattle.mp_script.proofs.Holding.{some_is}
 use Rattle.mp_script.proofs.WrittenWords.{is_dark, is_plain}
-use Rattle.mp_script.proofs.WrittenShapes.{words_of_shape, is_form, canon, canon_unless, IsNumber, same_word, plain_number, submit_numbers, finish_number, log_number, add_number}
+use Rattle.mp_script.proofs.WrittenShapes.{words_of_shape, is_form, canon, canon_unless, IsNumber, plain_number, submit_numbers, finish_number, log_number, add_number}
 
 -- ---- names
 
 -- a name is that of the controller which it names
-named_at : (controllers : List Controller) (w : List ℕ) (o : Option ℕ) → place_in controllers w ≡ o → is_some o ≡ true
-    → HoldsAt (λ c. c.name ≡ w) controllers (unwrap_or o 0) × (unwrap_or o 0 < length controllers)
-named_at controllers w None e h = absurd (false≢true h)
-named_at controllers w (Some p) e h = let found = placed_there w controllers (Some p) e in (found.1, found.0)
+named_at : (controllers : List Controller) (w : List ℕ) → is_there controllers w ≡ true
+    → (p : ℕ) × (place_in controllers w ≡ Some p) × HoldsAt (λ c. c.name ≡ w) controllers p × (p < length controllers)
+unfolding is_there
+named_at controllers w h =
+    let found = some_is (place_in controllers w) h in
+    let there = placed_there w controllers (Some found.0) found.1 in
+    (found.0, found.1, there.1, there.0)
 
 no_controller : Controller
 no_controller = record { name = []; node = None; ana = false; state = Live; page = None }
@@ -38,11 +43,10 @@ no_controller = record { name = []; node = None; ana = false; state = Live; page
 name_in_place : (t : Topology) (w : List ℕ) (p : ℕ) (d : Controller) → HoldsAt (λ c. c.name ≡ w) t.controllers p → p < length t.controllers → name_of t p ≡ w
 name_in_place t w p d holds lt = rw (slice_get-get_or t.controllers p d lt) (holds d)
 
-pub name_is : (t : Topology) (w : List ℕ) → is_there t.controllers w ≡ true → name_of t (ctrl_of t.controllers w) ≡ w
-unfolding is_there ctrl_of
+name_is : (t : Topology) (w : List ℕ) → is_there t.controllers w ≡ true → (p : ℕ) × (place_in t.controllers w ≡ Some p) × (name_of t p ≡ w)
 name_is t w h =
-    let found = named_at t.controllers w (place_in t.controllers w) refl h in
-    name_in_place t w (unwrap_or (place_in t.controllers w) 0) no_controller found.0 found.1
+    let found = named_at t.controllers w h in
+    (found.0, found.1, name_in_place t w found.0 no_controller found.2 found.3)
 
 -- a name of the topology is a word
 dark_name : (bs : List ℕ) → list_all is_name_byte bs ≡ true → list_all is_dark bs ≡ true
@@ -65,50 +69,17 @@ plain_at : (controllers : List Controller) (w : List ℕ) (p : ℕ) → All (λ 
 plain_at controllers w p names holds lt = plain_name w (rw (← holds no_controller) (names p no_controller lt))
 
 pub plain_named : (controllers : List Controller) (w : List ℕ) → All (λ c. is_name c.name ≡ true) controllers → is_there controllers w ≡ true → is_plain w ≡ true
-unfolding is_there
 plain_named controllers w names h =
-    let found = named_at controllers w (place_in controllers w) refl h in
-    plain_at controllers w (unwrap_or (place_in controllers w) 0) names found.0 found.1
+    let found = named_at controllers w h in
+    plain_at controllers w found.0 names found.2 found.3
 
 -- ---- states and policies
 
-state_is : (w : List ℕ) → is_some (state_named w) ≡ true → cstate_word (state_of w) ≡ w
-unfolding state_named state_of
-state_is w h = elim (cases_Bool (bytes_eq w (codes "new"))) [
-  | inl a ↦ rw a (sym (same_word w (codes "new") a))
-  | inr a ↦ elim (cases_Bool (bytes_eq w (codes "live"))) [
-    | inl b ↦ rw (a, b) (sym (same_word w (codes "live") b))
-    | inr b ↦ elim (cases_Bool (bytes_eq w (codes "resetting"))) [
-      | inl c ↦ rw (a, b, c) (sym (same_word w (codes "resetting") c))
-      | inr c ↦ elim (cases_Bool (bytes_eq w (codes "connecting"))) [
-        | inl d ↦ rw (a, b, c, d) (sym (same_word w (codes "connecting") d))
-        | inr d ↦ elim (cases_Bool (bytes_eq w (codes "deleting"))) [
-          | inl e ↦ rw (a, b, c, d, e) (sym (same_word w (codes "deleting") e))
-          | inr e ↦ elim (cases_Bool (bytes_eq w (codes "deleting-noio"))) [
-            | inl f ↦ rw (a, b, c, d, e, f) (sym (same_word w (codes "deleting-noio") f))
-            | inr f ↦ elim (cases_Bool (bytes_eq w (codes "dead"))) [
-              | inl g ↦ rw (a, b, c, d, e, f, g) (sym (same_word w (codes "dead") g))
-              | inr g ↦ absurd (false≢true (rw (a, b, c, d, e, f, g) at h))
-            ]
-          ]
-        ]
-      ]
-    ]
-  ]
-]
+state_is : (w : List ℕ) → is_some (cstate_named w) ≡ true → (s : CState) × (cstate_named w ≡ Some s) × (cstate_word s ≡ w)
+state_is w h = let found = some_is (cstate_named w) h in (found.0, found.1, cstate_is_named w found.0 found.1)
 
-policy_is : (w : List ℕ) → is_some (policy_named w) ≡ true → policy_word (policy_of w) ≡ w
-unfolding policy_of
-policy_is w h = elim (cases_Bool (bytes_eq w (codes "numa"))) [
-  | inl a ↦ rw a (sym (same_word w (codes "numa") a))
-  | inr a ↦ elim (cases_Bool (bytes_eq w (codes "round-robin"))) [
-    | inl b ↦ rw (a, b) (sym (same_word w (codes "round-robin") b))
-    | inr b ↦ elim (cases_Bool (bytes_eq w (codes "queue-depth"))) [
-      | inl c ↦ rw (a, b, c) (sym (same_word w (codes "queue-depth") c))
-      | inr c ↦ absurd (false≢true (rw (a, b, c) at h))
-    ]
-  ]
-]
+policy_is : (w : List ℕ) → is_some (policy_named w) ≡ true → (p : Policy) × (policy_named w ≡ Some p) × (policy_word p ≡ w)
+policy_is w h = let found = some_is (policy_named w) h in (found.0, found.1, policy_is_named w found.0 found.1)
 
 plain_cstate : (s : CState) → is_plain (cstate_word s) ≡ true
 plain_cstate New = refl
@@ -180,8 +151,9 @@ plain_words t pages (log c k) right h =
     let p = and_parts (is_there t.controllers c) (has_ana t.controllers c && has_box pages k) right.named in
     rw (plain_named t.controllers c right.names p.0, plain_number k (log_number t.controllers t.near.nodes pages c k right.numbers right.named)) refl
 plain_words t pages (ctrl c s) right h =
-    let p = and_parts (is_there t.controllers c) (is_some (state_named s)) right.named in
-    let plain : is_plain s ≡ true = rw (← state_is s p.1) (plain_cstate (state_of s)) in
+    let p = and_parts (is_there t.controllers c) (is_some (cstate_named s)) right.named in
+    let found = state_is s p.1 in
+    let plain : is_plain s ≡ true = rw (← found.2) (plain_cstate found.0) in
     rw (plain_named t.controllers c right.names p.0, plain) refl
 plain_words t pages (anatt c) right h = rw (plain_named t.controllers c right.names right.named) refl
 plain_words t pages (add c k) right h =
@@ -189,7 +161,14 @@ plain_words t pages (add c k) right h =
     rw (plain_named t.controllers c right.names p.0, plain_unless (codes "-") k refl (λ other. add_number t.controllers t.near.nodes pages c k other right.numbers right.named)) refl
 plain_words t pages (remove c) right h = rw (plain_named t.controllers c right.names right.named) refl
 plain_words t pages reap right h = refl
-plain_words t pages (policy p) right h = let plain : is_plain p ≡ true = rw (← policy_is p right.named) (plain_policy (policy_of p)) in rw plain refl
+plain_words t pages (policy p) right h =
+    let found = policy_is p right.named in
+    let plain : is_plain p ≡ true = rw (← found.2) (plain_policy found.0) in
+    rw plain refl
+
+ctrl_words : (t : Topology) (o : Option ℕ) (q : Option CState) (p : ℕ) (st : CState) (c s : List ℕ) → o ≡ Some p → q ≡ Some st → name_of t p ≡ c → cstate_word st ≡ s
+    → map (line_words t) (option_to_list (option_and_then (λ x. option_map (line.Ctrl x) q) o)) ≡ (codes "ctrl" ∷ c ∷ s ∷ []) ∷ []
+ctrl_words t o q p st c s e f g h = rw (e, f, g, h) refl
 
 -- what is written of what the line asks for
 pub written_words : (t : Topology) (pages : ℕ) (s : Shape) → IsRight t pages s → is_kept s ≡ true → begins_lane s ≡ false
@@ -208,17 +187,21 @@ written_words t pages (finish r) right h in_lane = elim (cases_Bool (is_word r (
 written_words t pages requeue right h in_lane = refl
 written_words t pages (log c k) right h in_lane =
     let p = and_parts (is_there t.controllers c) (has_ana t.controllers c && has_box pages k) right.named in
-    rw (name_is t c p.0) refl
+    let found = name_is t c p.0 in
+    rw (found.1, found.2) refl
 written_words t pages (ctrl c s) right h in_lane =
-    let p = and_parts (is_there t.controllers c) (is_some (state_named s)) right.named in
-    rw (name_is t c p.0, state_is s p.1) refl
-written_words t pages (anatt c) right h in_lane = rw (name_is t c right.named) refl
+    let p = and_parts (is_there t.controllers c) (is_some (cstate_named s)) right.named in
+    let found = name_is t c p.0 in
+    let state = state_is s p.1 in
+    ctrl_words t (place_in t.controllers c) (cstate_named s) found.0 state.0 c s found.1 state.1 found.2 state.2
+written_words t pages (anatt c) right h in_lane = let found = name_is t c right.named in rw (found.1, found.2) refl
 written_words t pages (add c k) right h in_lane =
     let p = and_parts (is_there t.controllers c) (if is_word k (codes "-") then not (has_ana t.controllers c) else has_ana t.controllers c && has_box pages k) right.named in
+    let found = name_is t c p.0 in
     elim (cases_Bool (is_word k (codes "-"))) [
-      | inl e ↦ rw (name_is t c p.0, e) refl
-      | inr e ↦ rw (name_is t c p.0, e) refl
+      | inl e ↦ rw (found.1, found.2, e) refl
+      | inr e ↦ rw (found.1, found.2, e) refl
     ]
-written_words t pages (remove c) right h in_lane = rw (name_is t c right.named) refl
+written_words t pages (remove c) right h in_lane = let found = name_is t c right.named in rw (found.1, found.2) refl
 written_words t pages reap right h in_lane = refl
-written_words t pages (policy p) right h in_lane = rw (policy_is p right.named) refl
+written_words t pages (policy p) right h in_lane = let found = policy_is p right.named in rw (found.1, found.2) refl

@@ -1,17 +1,17 @@
 -- Numbers that are written are read.
-use Rattle.std.proofs.Common.{inl, inr, ◌≡◌, ℕ, suc, ◌+◌, ◌*◌, ◌-◌, ◌/◌, ◌%◌, ◌^◌, ◌<◌, ◌≤◌, true, false, List, [], ◌∷◌, length, Some, refl, sym, ap, ◌∙◌, arith}
-use Rattle.std.specs.Prelude.{nat_le, nat_lt, ◌==◌}
+use Rattle.std.proofs.Common.{inl, inr, ◌≡◌, ℕ, ◌+◌, ◌*◌, ◌-◌, ◌/◌, ◌%◌, ◌^◌, ◌<◌, ◌≤◌, true, List, [], ◌∷◌, length, Some, refl, sym, ap, ◌∙◌, arith}
+use Rattle.std.specs.Prelude.{nat_le}
 use Rattle.std.specs.List.{list_all}
 use Rattle.std.specs.Char.{digit_value}
 use Rattle.std.specs.Str.Parse.{AllDigits, digits_value, digits_value_after}
-use Rattle.std.specs.Fmt.{decimal, digits, digits_onto, digit_glyph, padded_integral, char_count}
-use Rattle.std.proofs.lemmas.Fmt.{decimal_is_IsNumeral_wide, length-decimal-le_wide, hex_one_digit, hex_two_digits}
-use Rattle.std.proofs.lemmas.Bool.{cases_lt}
+use Rattle.std.specs.Fmt.{decimal}
+use Rattle.std.proofs.lemmas.Fmt.{decimal_is_IsNumeral_wide, length-decimal-le_wide}
+use Rattle.std.proofs.lemmas.Bool.{cases_Bool}
 use Rattle.std.proofs.lemmas.Str.{digit_value_digit}
 use Rattle.std.proofs.lemmas.Str.Parse.{digit_from_value}
 use Rattle.std.proofs.lemmas.Bool.Decides.{nat_tests}
-use Rattle.mp_script.specs.Words.{is_digit, digits_from, number_of, is_hex, hex_value, hex_of}
-use Rattle.mp_script.specs.Written.{status_word}
+use Rattle.mp_script.specs.Splitting.{is_digit, digits_from, number_of}
+use Rattle.mp_words.specs.Status.{hex_digit, status_word}
 use Rattle.mp_script.proofs.WrittenWords.{is_dark, is_plain}
 
 digit_is : (b : ℕ) → digit_value b < 10 → (is_digit b ≡ true) × (digit_value b ≡ b - 48)
@@ -63,87 +63,16 @@ plain_decimal n lt =
 
 -- ---- statuses
 
--- the four digits of a status
-abbrev pub hex_word : ℕ → List ℕ
-hex_word s = digit_glyph true (s / 4096) ∷ digit_glyph true (s / 256 % 16) ∷ digit_glyph true (s / 16 % 16) ∷ digit_glyph true (s % 16) ∷ []
-
-onto_step : (k n : ℕ) (acc : List ℕ) → 16 ≤ n → digits_onto (suc k) 16 true n acc ≡ digits_onto k 16 true (n / 16) (digit_glyph true (n % 16) ∷ acc)
-onto_step k n acc large = let e : (n / 16 == 0) ≡ false = grind (arith, nat_tests) in rw e refl
-
-onto_last : (k n : ℕ) (acc : List ℕ) → n < 16 → digits_onto (suc k) 16 true n acc ≡ digit_glyph true n ∷ acc
-onto_last k n acc small =
-    let e : (n / 16 == 0) ≡ true = grind (arith, nat_tests) in
-    let same : n % 16 ≡ n = omega arith in
-    rw (e, same) refl
-
-hex_three_digits : (n : ℕ) → 256 ≤ n → n < 4096 → digits 16 true n ≡ digit_glyph true (n / 256) ∷ digit_glyph true (n / 16 % 16) ∷ digit_glyph true (n % 16) ∷ []
-unfolding digits
-hex_three_digits n large small =
-    let same : n / 16 / 16 ≡ n / 256 = omega arith in
-    onto_step 63 n [] (omega arith)
-    ∙ onto_step 62 (n / 16) (digit_glyph true (n % 16) ∷ []) (omega arith)
-    ∙ onto_last 61 (n / 16 / 16) (digit_glyph true (n / 16 % 16) ∷ digit_glyph true (n % 16) ∷ []) (omega arith)
-    ∙ ap (λ d. digit_glyph true d ∷ digit_glyph true (n / 16 % 16) ∷ digit_glyph true (n % 16) ∷ []) same
-
-hex_four_digits : (n : ℕ) → 4096 ≤ n → n < 65536 → digits 16 true n ≡ hex_word n
-unfolding digits
-hex_four_digits n large small =
-    let same : n / 16 / 16 / 16 ≡ n / 4096 = omega arith in
-    let third : n / 16 / 16 % 16 ≡ n / 256 % 16 = omega arith in
-    onto_step 63 n [] (omega arith)
-    ∙ onto_step 62 (n / 16) (digit_glyph true (n % 16) ∷ []) (omega arith)
-    ∙ onto_step 61 (n / 16 / 16) (digit_glyph true (n / 16 % 16) ∷ digit_glyph true (n % 16) ∷ []) (omega arith)
-    ∙ onto_last 60 (n / 16 / 16 / 16) (digit_glyph true (n / 16 / 16 % 16) ∷ digit_glyph true (n / 16 % 16) ∷ digit_glyph true (n % 16) ∷ []) (omega arith)
-    ∙ (λ i. digit_glyph true (same i) ∷ digit_glyph true (third i) ∷ digit_glyph true (n / 16 % 16) ∷ digit_glyph true (n % 16) ∷ [])
-
-status_is : (s : ℕ) → s < 65536 → status_word s ≡ hex_word s
-unfolding padded_integral char_count
-status_is s lt = elim (cases_lt s 16) [
-  | inl one ↦
-      let a : s / 4096 ≡ 0 = omega arith in
-      let b : s / 256 % 16 ≡ 0 = omega arith in
-      let c : s / 16 % 16 ≡ 0 = omega arith in
-      let d : s % 16 ≡ s = omega arith in
-      rw (hex_one_digit true s one, a, b, c, d) refl
-  | inr more ↦ elim (cases_lt s 256) [
-    | inl two ↦
-        let a : s / 4096 ≡ 0 = omega arith in
-        let b : s / 256 % 16 ≡ 0 = omega arith in
-        let c : s / 16 % 16 ≡ s / 16 = omega arith in
-        rw (hex_two_digits true s more two, a, b, c) refl
-    | inr many ↦ elim (cases_lt s 4096) [
-      | inl three ↦
-          let a : s / 4096 ≡ 0 = omega arith in
-          let b : s / 256 % 16 ≡ s / 256 = omega arith in
-          rw (hex_three_digits s many three, a, b) refl
-      | inr four ↦ rw (hex_four_digits s four lt) refl
-    ]
-  ]
+digit_dark : (d : ℕ) → d < 16 → is_dark (hex_digit d) ≡ true
+digit_dark d lt = elim (cases_Bool (nat_le d 9)) [
+  | inl e ↦ rw e (grind (arith, nat_tests))
+  | inr e ↦ rw e (grind (arith, nat_tests))
 ]
 
-glyph_read : (d : ℕ) → d < 16 → (is_hex (digit_glyph true d) ≡ true) × (hex_value (digit_glyph true d) ≡ d) × (is_dark (digit_glyph true d) ≡ true)
-glyph_read d lt = elim (cases_lt d 10) [
-  | inl low ↦
-      let e : nat_lt d 10 ≡ true = grind (arith, nat_tests) in
-      rw e (grind (arith, nat_tests), grind (arith, nat_tests), grind (arith, nat_tests))
-  | inr high ↦
-      let e : nat_lt d 10 ≡ false = grind (arith, nat_tests) in
-      rw e (grind (arith, nat_tests), grind (arith, nat_tests), grind (arith, nat_tests))
-]
-
-pub hex_status : (s : ℕ) → s < 65536 → hex_of (status_word s) ≡ Some s
-hex_status s lt =
-    let a = glyph_read (s / 4096) (omega arith) in
-    let b = glyph_read (s / 256 % 16) (omega arith) in
-    let c = glyph_read (s / 16 % 16) (omega arith) in
-    let d = glyph_read (s % 16) (omega arith) in
-    let sum : (((0 * 16 + s / 4096) * 16 + s / 256 % 16) * 16 + s / 16 % 16) * 16 + s % 16 ≡ s = omega arith in
-    ap hex_of (status_is s lt) ∙ rw (a.0, b.0, c.0, d.0, a.1, b.1, c.1, d.1) (ap Some sum)
-
-pub plain_status : (s : ℕ) → s < 65536 → is_plain (status_word s) ≡ true
-plain_status s lt =
-    let a = glyph_read (s / 4096) (omega arith) in
-    let b = glyph_read (s / 256 % 16) (omega arith) in
-    let c = glyph_read (s / 16 % 16) (omega arith) in
-    let d = glyph_read (s % 16) (omega arith) in
-    ap is_plain (status_is s lt) ∙ rw (a.2, b.2, c.2, d.2) refl
+pub plain_status : (s : ℕ) → is_plain (status_word s) ≡ true
+plain_status s =
+    let a = digit_dark (s / 4096 % 16) (omega arith) in
+    let b = digit_dark (s / 256 % 16) (omega arith) in
+    let c = digit_dark (s / 16 % 16) (omega arith) in
+    let d = digit_dark (s % 16) (omega arith) in
+    rw (a, b, c, d) refl

@@ -13,9 +13,10 @@ use Rattle.mp_words.specs.Answers.{is_of, is_earlier, put_answer, in_order, IsAn
 use Rattle.mp_words.proofs.Rising.{put_rising, any_in_order}
 use Rattle.mp_topology.specs.declared.topology.Controller.{Controller}
 use Rattle.mp_topology.specs.declared.topology.Topology.{Topology}
-use Rattle.mp_script.specs.Words.{is_in, is_status, number_of, value_of, hex_of, status_of}
+use Rattle.mp_script.specs.Splitting.{is_in, is_status, number_of, value_of, status_of}
+use Rattle.mp_words.specs.Status.{status_in}
 use Rattle.mp_script.specs.Shape.{Shape, skipped, unknown, answer, lane, keeper, submit, finish, requeue, log, ctrl, anatt, add, remove, reap, policy, shape_of}
-use Rattle.mp_script.specs.Named.{has_numbers}
+use Rattle.mp_script.specs.Wording.{has_numbers}
 use Rattle.mp_script.specs.Before.{begins_lane, each_of, answer_of, before, repeats}
 use Rattle.mp_script.specs.Lines.{shape_checks}
 use Rattle.mp_script.specs.Plans.{plans}
@@ -174,7 +175,7 @@ ranges_of nodes r a s h =
     let p = and_parts (is_in 0 65535 r) (is_in 1 65535 a && is_status s) h in
     let q = and_parts (is_in 1 65535 a) (is_status s) p.1 in
     let range = in_above 1 65535 (number_of a) q.0 in
-    record { least = range.0; most = range.1; status = status_small (hex_of s) q.1 }
+    record { least = range.0; most = range.1; status = status_small (status_in s) q.1 }
 
 -- what holds of each answer of a line, where it holds of a line that is an answer
 on_answer : (P : Answer → Type 0) (s : Shape) → ((r a w : List ℕ) → s ≡ answer r a w → P (answer_with r a w)) → OnAnswer P (answer_of s)

@@ -10,7 +10,7 @@ use Rattle.mp_checks.proofs.CheckLaws.{pass_split, pass_join}
 use Rattle.mp_topology.specs.Controllers.{is_name}
 use Rattle.mp_topology.specs.declared.topology.Topology.{Topology}
 use Rattle.mp_script.specs.Shape.{Shape, skipped, unknown, answer, lane, keeper, submit, finish, requeue, log, ctrl, anatt, add, remove, reap, policy, shape_of}
-use Rattle.mp_script.specs.Named.{is_named, is_submitted}
+use Rattle.mp_script.specs.Wording.{is_named, is_submitted}
 use Rattle.mp_script.specs.Before.{Before, begins_lane, is_keeper, is_keepers_lane, each_of, submitted_of, lanes_in, before, repeats, submitted_in}
 use Rattle.mp_script.specs.Lines.{stands, is_keepers, is_within, shape_checks, line_checks}
 use Rattle.mp_script.specs.declared.errors.ScriptError.{ScriptError}

@@ -1,25 +1,28 @@
 -- The lanes of the canonical text.
 use Rattle.std.proofs.Common.{inl, inr, ◌≡◌, ℕ, ◌+◌, ◌≤◌, true, false, List, [], ◌∷◌, ◌++◌, length, map, filter, Option, Some, None, All, refl, sym, ap, ◌∙◌, arith}
-use Rattle.std.specs.Prelude.{is_some, unwrap_or, if◌then◌else◌}
+use Rattle.std.specs.Prelude.{is_some, option_map, option_and_then, if◌then◌else◌}
 use Rattle.std.specs.Option.{option_to_list}
 use Rattle.std.specs.List.{AllByRecursion, flat_map, join_with_byte}
-use Rattle.std.proofs.lemmas.Bool.{false≢true, cases_Bool}
+use Rattle.std.proofs.lemmas.Bool.{false≢true, and_parts, cases_Bool}
 use Rattle.std.proofs.lemmas.List.{length-map}
 use Rattle.mp_checks.specs.Checks.{AllPass}
+use Rattle.mp_words.specs.Names.{policy_named, cstate_named}
 use Rattle.mp_topology.specs.Controllers.{is_name}
 use Rattle.mp_topology.specs.declared.topology.Controller.{Controller}
 use Rattle.mp_topology.specs.declared.topology.Topology.{Topology}
 use Rattle.mp_script.specs.Shape.{Shape, skipped, unknown, answer, lane, keeper, submit, finish, requeue, log, ctrl, anatt, add, remove, reap, policy, shape_of}
-use Rattle.mp_script.specs.Named.{has_numbers}
+use Rattle.mp_script.specs.Splitting.{value_of}
+use Rattle.mp_script.specs.Wording.{place_in, is_there, is_named, has_numbers}
 use Rattle.mp_script.specs.Before.{begins_lane, is_keeper, each_of, submitted_of, lanes_in, before, in_lanes, right_submit, submitted_in}
 use Rattle.mp_script.specs.Lines.{stands, shape_checks}
-use Rattle.mp_script.specs.Plans.{line_of, body, plans}
+use Rattle.mp_script.specs.Plans.{page_of, line_of, body, plans}
 use Rattle.mp_script.specs.Written.{line_words, lane_words, plan_lines, numbered_from, plans_from}
 use Rattle.mp_script.specs.declared.script.Line.{Line}
 use Rattle.mp_script.specs.declared.script.Line.TheVariants as line
 use Rattle.mp_script.specs.declared.script.Numbered1.{Numbered1}
 use Rattle.mp_script.proofs.WrittenWords.{are_plain, are_short}
 use Rattle.mp_script.proofs.WrittenShapes.{Seen, seen, canon, canon_seen, words_of_shape, few_words, text_of, shape_text}
+use Rattle.mp_script.proofs.Holding.{some_is}
 use Rattle.mp_script.proofs.WrittenLine.{is_kept, kept_form, IsRight, plain_words, written_words}
 use Rattle.mp_script.proofs.WrittenPass.{PassFrom, right_line, kept_lines, kept_yes, kept_no, kept_submit, lanes_append, other_lane}
 
@@ -117,27 +120,33 @@ kept_submits t pages (l ∷ ls) h =
 
 -- ---- the lanes
 
-some_of : {X : Type 0} (o : Option X) (x : X) → is_some o ≡ true → o ≡ Some (unwrap_or o x)
-some_of None x h = absurd (false≢true h)
-some_of (Some y) x h = refl
+map_some : {X Y : Type 0} (f : X → Y) (o : Option X) → is_some o ≡ true → is_some (option_map f o) ≡ true
+map_some f None h = absurd (false≢true h)
+map_some f (Some x) h = refl
 
-asks : (controllers : List Controller) (s : Shape) → is_kept s ≡ true → begins_lane s ≡ false → is_some (line_of controllers s) ≡ true
-unfolding line_of
-asks controllers skipped h e = absurd (false≢true h)
-asks controllers unknown h e = absurd (false≢true h)
-asks controllers (answer r a s) h e = absurd (false≢true h)
-asks controllers lane h e = absurd (false≢true (sym e))
-asks controllers keeper h e = absurd (false≢true (sym e))
-asks controllers (submit r n) h e = refl
-asks controllers (finish r) h e = refl
-asks controllers requeue h e = refl
-asks controllers (log c k) h e = refl
-asks controllers (ctrl c s) h e = refl
-asks controllers (anatt c) h e = refl
-asks controllers (add c k) h e = refl
-asks controllers (remove c) h e = refl
-asks controllers reap h e = refl
-asks controllers (policy p) h e = refl
+then_some : {X Y Z : Type 0} (f : X → Y → Z) (o : Option X) (q : Option Y) → is_some o ≡ true → is_some q ≡ true → is_some (option_and_then (λ x. option_map (f x) q) o) ≡ true
+then_some f None q h k = absurd (false≢true h)
+then_some f (Some x) q h k = map_some (f x) q k
+
+asks : (controllers : List Controller) (pages : ℕ) (s : Shape) → is_named controllers pages s ≡ true → is_kept s ≡ true → begins_lane s ≡ false → is_some (line_of controllers s) ≡ true
+unfolding line_of is_named is_there
+asks controllers pages skipped named h e = absurd (false≢true h)
+asks controllers pages unknown named h e = absurd (false≢true h)
+asks controllers pages (answer r a s) named h e = absurd (false≢true h)
+asks controllers pages lane named h e = absurd (false≢true (sym e))
+asks controllers pages keeper named h e = absurd (false≢true (sym e))
+asks controllers pages (submit r n) named h e = refl
+asks controllers pages (finish r) named h e = refl
+asks controllers pages requeue named h e = refl
+asks controllers pages (log c k) named h e = map_some (λ p. line.Log p (value_of k)) (place_in controllers c) (and_parts (is_some (place_in controllers c)) _ named).0
+asks controllers pages (ctrl c s) named h e =
+    let p = and_parts (is_some (place_in controllers c)) (is_some (cstate_named s)) named in
+    then_some line.Ctrl (place_in controllers c) (cstate_named s) p.0 p.1
+asks controllers pages (anatt c) named h e = map_some line.Anatt (place_in controllers c) named
+asks controllers pages (add c k) named h e = map_some (λ p. line.Add p (page_of k)) (place_in controllers c) (and_parts (is_some (place_in controllers c)) _ named).0
+asks controllers pages (remove c) named h e = map_some line.Remove (place_in controllers c) named
+asks controllers pages reap named h e = refl
+asks controllers pages (policy p) named h e = map_some line.Policy (policy_named p) named
 
 asks_none : (controllers : List Controller) (s : Shape) → is_kept s ≡ false → (begins_lane s ≡ false) × (line_of controllers s ≡ None)
 unfolding line_of
@@ -193,18 +202,18 @@ data Kind (controllers : List Controller) (s : Shape) : Type 0 where
   asking : (x : Line) → is_kept s ≡ true → begins_lane s ≡ false → line_of controllers s ≡ Some x → Kind controllers s
   other : is_kept s ≡ false → begins_lane s ≡ false → line_of controllers s ≡ None → Kind controllers s
 
-kind_of : (controllers : List Controller) (s : Shape) → Kind controllers s
-kind_of controllers s = elim (cases_Bool (is_kept s)) [
+kind_of : (t : Topology) (pages : ℕ) (s : Shape) → IsRight t pages s → Kind t.controllers s
+kind_of t pages s right = elim (cases_Bool (is_kept s)) [
   | inl e ↦ elim (cases_Bool (begins_lane s)) [
     | inl f ↦ begins e f
-    | inr f ↦ asking (unwrap_or (line_of controllers s) line.Reap) e f (some_of (line_of controllers s) line.Reap (asks controllers s e f))
+    | inr f ↦ let found = some_is (line_of t.controllers s) (asks t.controllers pages s right.named e f) in asking found.0 e f found.1
   ]
-  | inr e ↦ let p = asks_none controllers s e in other e p.0 p.1
+  | inr e ↦ let p = asks_none t.controllers s e in other e p.0 p.1
 ]
 
 pub kept_body : (t : Topology) (pages : ℕ) (ls : List (List ℕ)) (m n : ℕ) → AllRight t pages ls → body t.controllers m (kept_lines ls) ≡ numbered_from m (body t.controllers n ls)
 kept_body t pages [] m n h = refl
-kept_body t pages (l ∷ ls) m n h = elim (kind_of t.controllers (shape_of l)) [
+kept_body t pages (l ∷ ls) m n h = elim (kind_of t pages (shape_of l) h.0) [
   | begins e f ↦
       let same = kept_seen t pages (shape_of l) h.0 e in
       let g : begins_lane (shape_of (text_of (canon (shape_of l)))) ≡ true = ap (λ (v : Seen). v.begins) same ∙ f in
@@ -220,7 +229,7 @@ kept_body t pages (l ∷ ls) m n h = elim (kind_of t.controllers (shape_of l)) [
 
 pub kept_plans : (t : Topology) (pages : ℕ) (ls : List (List ℕ)) (m n : ℕ) → AllRight t pages ls → plans t.controllers m (kept_lines ls) ≡ plans_from (m + length (body t.controllers n ls)) (plans t.controllers n ls)
 kept_plans t pages [] m n h = refl
-kept_plans t pages (l ∷ ls) m n h = elim (kind_of t.controllers (shape_of l)) [
+kept_plans t pages (l ∷ ls) m n h = elim (kind_of t pages (shape_of l) h.0) [
   | begins e f ↦
       let same = kept_seen t pages (shape_of l) h.0 e in
       let text = text_of (canon (shape_of l)) in
@@ -307,7 +316,7 @@ asked_words t pages s x right e f a = ap (λ o. map (line_words t) (option_to_li
 pub lane_written : (t : Topology) (pages : ℕ) (ls : List (List ℕ)) (n : ℕ) → AllRight t pages ls
     → map (λ l. line_words t l.line) (body t.controllers n ls) ++ flat_map (plan_lines t) (plans t.controllers n ls) ≡ kept_words ls
 lane_written t pages [] n h = refl
-lane_written t pages (l ∷ ls) n h = elim (kind_of t.controllers (shape_of l)) [
+lane_written t pages (l ∷ ls) n h = elim (kind_of t pages (shape_of l) h.0) [
   | begins e f ↦
       rw (body_begins t.controllers n l ls f, plans_begins t.controllers n l ls f, words_yes l ls e, lane_begins (shape_of l) e f)
       (ap (λ ws. lane_words (is_keeper (shape_of l)) ∷ ws) (lane_written t pages ls (n + 1) h.1))

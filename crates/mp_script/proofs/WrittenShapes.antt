@@ -8,9 +8,9 @@ use Rattle.std.proofs.lemmas.Bool.Decides.{nat_tests}
 use Rattle.std.proofs.lemmas.Slice.Eq.{bytes_eq-Decides}
 use Rattle.mp_checks.specs.Checks.{if_there}
 use Rattle.mp_topology.specs.declared.topology.Controller.{Controller}
-use Rattle.mp_script.specs.Words.{number_of, value_of, is_in}
+use Rattle.mp_script.specs.Splitting.{number_of, value_of, is_in}
 use Rattle.mp_script.specs.Shape.{Shape, skipped, unknown, answer, lane, keeper, submit, finish, requeue, log, ctrl, anatt, add, remove, reap, policy, is_word, shape_0, shape_1, shape_2, shape_3, shape_of_words, shape_of}
-use Rattle.mp_script.specs.Named.{has_numbers, is_named, is_node, is_submitted, has_box, has_ana, is_there}
+use Rattle.mp_script.specs.Wording.{has_numbers, is_named, is_node, is_submitted, has_box, has_ana, is_there}
 use Rattle.mp_script.specs.Before.{Before, begins_lane, is_keeper, submitted_of, repeats}
 use Rattle.mp_script.specs.Lines.{stands, is_keepers, is_built}
 use Rattle.mp_script.specs.Plans.{line_of, page_of, finish_of}

@@ -6,7 +6,7 @@ use Rattle.std.proofs.lemmas.Bool.{false≢true, and_parts}
 use Rattle.std.proofs.lemmas.Bool.Decides.{nat_tests}
 use Rattle.std.proofs.lemmas.List.{length-append}
 use Rattle.std.proofs.lemmas.List.Folds.{list_all-append}
-use Rattle.mp_script.specs.Words.{is_script_byte, lines_of, words_of, is_blank, goes_on}
+use Rattle.mp_script.specs.Splitting.{is_script_byte, lines_of, words_of, is_blank, goes_on}
 use Rattle.mp_script.specs.Written.{line_text}
 
 -- a byte that a word has

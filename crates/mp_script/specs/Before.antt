@@ -5,9 +5,9 @@ use Rattle.std.specs.List.{list_any, last_or}
 use Rattle.mp_checks.specs.Marks.{has}
 use Rattle.mp_words.specs.declared.answers.Answer.{Answer}
 use Rattle.mp_words.specs.Answers.{is_of}
-use Rattle.mp_script.specs.Words.{value_of, status_of}
+use Rattle.mp_script.specs.Splitting.{value_of, status_of}
 use Rattle.mp_script.specs.Shape.{Shape, answer, lane, keeper, submit, shape_of}
-use Rattle.mp_script.specs.Named.{has_numbers}
+use Rattle.mp_script.specs.Wording.{has_numbers}
 
 -- the line begins a lane
 abbrev pub begins_lane : Shape → Bool

@@ -2,7 +2,7 @@
 use Rattle.std.specs.Prelude.{◌≡◌, ℕ, ◌+◌, Bool, false, ◌||◌, if◌then◌else◌, List, [], ◌++◌, Option, Some, None, option_map}
 use Rattle.std.specs.Option.{option_to_list}
 use Rattle.std.specs.List.{list_any}
-use Rattle.mp_checks.specs.Marks.{IsTable}
+use Rattle.mp_checks.specs.Marks.{HaveSame}
 use Rattle.mp_words.specs.Answers.{in_order, is_of, put_answer}
 use Rattle.mp_words.specs.declared.answers.Answer.{Answer}
 use Rattle.mp_topology.specs.declared.topology.Controller.{Controller}
@@ -11,15 +11,15 @@ use Rattle.mp_script.specs.Before.{Before, begins_lane, is_keeper, submitted_of,
 use Rattle.mp_script.specs.Plans.{numbered}
 use Rattle.mp_script.specs.declared.script.Numbered1.{Numbered1}
 use Rattle.mp_script.specs.declared.script.LanePlan.{LanePlan}
-use Rattle.mp_script.specs.declared.known.Known.{Known}
+use Rattle.mp_script.specs.declared.earlier.Earlier.{Earlier}
 use Rattle.mp_script.specs.declared.building.Building.{Building}
 
 -- what is known is what stands before a line
-pub record IsKnown (k : Known) (b : Before) : Type 0 where
+pub record IsEarlier (k : Earlier) (b : Before) : Type 0 where
   pub lanes : k.lanes ≡ b.lanes
   pub in_keeper : k.in_keeper ≡ b.in_keeper
   pub had_keeper : k.had_keeper ≡ b.had_keeper
-  pub submitted : IsTable 65536 k.submitted.items b.submitted
+  pub submitted : HaveSame k.submitted b.submitted
   pub answered : k.answered ≡ in_order b.answered
 
 -- these answers have one of the attempt that is answered

@@ -60,7 +60,8 @@ abbrev pub Adds : List Controller → ℕ → ℕ → Option ℕ → Type 0
 Adds controllers pages c None = HasAna false controllers c
 Adds controllers pages c (Some page) = HasAna true controllers c × (page < pages)
 
--- What a line of a lane names is there, where the script submits these, and a line of the keeper's is in the keeper's lane.
+-- What a line of a lane names is there, where the script submits these, and a line of the keeper's is in the keeper's
+-- lane.
 abbrev pub IsLine : Topology → ℕ → List ℕ → Bool → Line → Type 0
 IsLine t pages submits keeper (line.Submit req node) = node < t.near.nodes
 IsLine t pages submits keeper (line.Finish req) = has submits req ≡ true
@@ -74,11 +75,12 @@ IsLine t pages submits keeper (line.Remove c) = (keeper ≡ true) × (c < length
 IsLine t pages submits keeper line.Reap = keeper ≡ true
 IsLine t pages submits keeper (line.Policy policy) = keeper ≡ true
 
--- of each line
+-- What holds of each of these lines.
 abbrev pub AreLines : Topology → ℕ → List ℕ → Bool → List Numbered1 → Type 0
 AreLines t pages submits keeper lines = AllByRecursion (λ l. IsLine t pages submits keeper l.line) lines
 
--- what holds of each script over a topology and so many boxes: its lines name what is there, and at most one lane is the keeper's
+-- what holds of each script over a topology and so many boxes: its lines name what is there, and at most one lane is
+-- the keeper's
 pub record IsOver (t : Topology) (pages : ℕ) (script : Script) : Type 0 where
   pub lines : AllByRecursion (λ plan. AreLines t pages (submits_in script.lanes) plan.keeper plan.lines) script.lanes
   pub keepers : length (filter (λ plan. plan.keeper) script.lanes) ≤ 1

@@ -1,8 +1,10 @@
-pub mod Words
+-- Scripts: what a text says, and the canonical text.
+pub mod Splitting
 pub mod Shape
-pub mod Named
+pub mod Wording
 pub mod Places
 pub mod Before
+pub mod Requests
 pub mod Lines
 pub mod Plans
 pub mod Script

@@ -1,9 +1,9 @@
 -- The checks of each line.
 use Rattle.std.specs.Prelude.{ℕ, ◌+◌, Bool, true, false, ◌&&◌, not, nat_le, ◌==◌, List, [], ◌∷◌, take}
 use Rattle.mp_topology.specs.declared.topology.Topology.{Topology}
-use Rattle.mp_script.specs.Words.{is_script_byte}
+use Rattle.mp_script.specs.Splitting.{is_script_byte}
 use Rattle.mp_script.specs.Shape.{Shape, skipped, unknown, answer, lane, keeper, submit, finish, add, remove, reap, policy, shape_of}
-use Rattle.mp_script.specs.Named.{has_numbers, is_named, is_submitted}
+use Rattle.mp_script.specs.Wording.{has_numbers, is_named, is_submitted}
 use Rattle.mp_script.specs.Before.{Before, begins_lane, before, repeats, submitted_in}
 use Rattle.mp_script.specs.declared.errors.ScriptError.{ScriptError}
 use Rattle.mp_script.specs.declared.errors.ScriptError.TheVariants as errors
@@ -42,7 +42,8 @@ shape_checks t pages submits b n s =
 
 -- the checks of the line at place i of these
 unfoldable pub line_checks : Topology → ℕ → List (List ℕ) → ℕ → List ℕ → List (Bool × ScriptError)
-line_checks t pages lines i l = shape_checks t pages (submitted_in t.near.nodes lines) (before (take i lines)) (i + 1) (shape_of l)
+line_checks t pages lines i l =
+    shape_checks t pages (submitted_in t.near.nodes lines) (before (take i lines)) (i + 1) (shape_of l)
 
 -- the check of the byte at place i
 unfoldable pub byte_checks : ℕ → ℕ → List (Bool × ScriptError)
@@ -58,5 +59,6 @@ is_built (submit r n) = true
 is_built (finish r) = true
 is_built _ = false
 
+-- the check of a line that comes last, behind those of the whole text: it is of a kind that can be run so far
 unfoldable pub built_checks : ℕ → List ℕ → List (Bool × ScriptError)
 built_checks i l = (is_built (shape_of l), errors.NotBuilt (i + 1)) ∷ []

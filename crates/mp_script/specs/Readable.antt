@@ -3,7 +3,7 @@ use Rattle.std.specs.Prelude.{◌≡◌, ℕ, List}
 use Rattle.mp_checks.specs.Checks.{AllPass}
 use Rattle.mp_topology.specs.declared.topology.Topology.{Topology}
 use Rattle.mp_script.specs.Script.{checks, script_of}
-use Rattle.mp_script.specs.Words.{lines_of}
+use Rattle.mp_script.specs.Splitting.{lines_of}
 use Rattle.mp_script.specs.declared.script.Script.{Script}
 
 -- The text passes each check, and this is its script.

@@ -1,11 +1,10 @@
 -- The checks of a script, as conditions on its whole text, and the script that it is.
 use Rattle.std.specs.Prelude.{◌≡◌, ◌⊎◌, ℕ, Bool, List, ◌++◌, None, Result}
-use Rattle.mp_checks.specs.Checks.{each_from, first_fault, IsLeast}
+use Rattle.mp_checks.specs.Checks.{each_from, first_fault, value_unless, IsLeast}
 use Rattle.mp_words.specs.Answers.{in_order}
-use Rattle.mp_topology.specs.Unless.{value_unless}
 use Rattle.mp_topology.specs.declared.topology.Topology.{Topology}
 use Rattle.mp_topology.specs.declared.topology.Controller.{Controller}
-use Rattle.mp_script.specs.Words.{lines_of}
+use Rattle.mp_script.specs.Splitting.{lines_of}
 use Rattle.mp_script.specs.Before.{each_of, answer_of}
 use Rattle.mp_script.specs.Lines.{byte_checks, line_checks, built_checks}
 use Rattle.mp_script.specs.Plans.{plans}
@@ -27,8 +26,8 @@ script_of controllers lines = record { answers = in_order (each_of answer_of lin
 unfoldable pub script_in : Topology → ℕ → List ℕ → Result Script ScriptError
 script_in t pages bytes = value_unless (first_fault (checks t pages bytes)) (script_of t.controllers (lines_of bytes))
 
--- The fault is the least pair of line and check that fails. Where no line has a fault, it is that of the first line that
--- can't be run yet.
+-- The fault is the least pair of line and check that fails. Where no line has a fault, it is that of the first line
+-- that can't be run yet.
 abbrev pub IsLeastFault : Topology → ℕ → List (List ℕ) → ScriptError → Type 0
 IsLeastFault t pages lines fault =
     IsLeast (line_checks t pages lines) lines fault

@@ -1,9 +1,9 @@
 -- What the words of one line are.
 use Rattle.std.specs.Prelude.{ℕ, Bool, false, ◌==◌, if◌then◌else◌, List, [], ◌∷◌, codes}
 use Rattle.std.specs.Str.{bytes_eq}
-use Rattle.mp_script.specs.Words.{words_of}
-use Rattle.mp_script.specs.declared.shapes.Words.{Words}
-use Rattle.mp_script.specs.declared.shapes.Words.TheVariants as code
+use Rattle.mp_script.specs.Splitting.{words_of}
+use Rattle.mp_script.specs.declared.shapes.LineShape.{LineShape}
+use Rattle.mp_script.specs.declared.shapes.LineShape.TheVariants as code
 
 -- The first word is one of the forms', with as many words behind it as the form has.
 pub data Shape : Type 0 where
@@ -27,7 +27,7 @@ pub data Shape : Type 0 where
 abbrev pub is_word : List ℕ → List ℕ → Bool
 is_word = bytes_eq
 
--- with no word after the first
+-- the line of a first word without a word behind it
 unfoldable pub shape_0 : List ℕ → Shape
 shape_0 w =
     if is_word w (codes "lane") then lane
@@ -36,7 +36,7 @@ shape_0 w =
     else if is_word w (codes "reap") then reap
     else unknown
 
--- with one word after the first
+-- the line of a first word with one word behind it
 unfoldable pub shape_1 : List ℕ → List ℕ → Shape
 shape_1 w a =
     if is_word w (codes "finish") then finish a
@@ -45,7 +45,7 @@ shape_1 w a =
     else if is_word w (codes "policy") then policy a
     else unknown
 
--- with two words after the first
+-- the line of a first word with two words behind it
 unfoldable pub shape_2 : List ℕ → List ℕ → List ℕ → Shape
 shape_2 w a b =
     if is_word w (codes "submit") then submit a b
@@ -54,7 +54,7 @@ shape_2 w a b =
     else if is_word w (codes "add") then add a b
     else unknown
 
--- with three words after the first
+-- the line of a first word with three words behind it
 unfoldable pub shape_3 : List ℕ → List ℕ → List ℕ → List ℕ → Shape
 shape_3 w a b c = if is_word w (codes "answer") then answer a b c else unknown
 
@@ -81,7 +81,7 @@ unfoldable pub shape_of : List ℕ → Shape
 shape_of text = shape_of_words (words_of text)
 
 -- the code's line, with what its references point to
-abbrev pub shape : Words → Shape
+abbrev pub shape : LineShape → Shape
 shape code.Skipped = skipped
 shape code.Unknown = unknown
 shape (code.Answer r a s) = answer r.now a.now s.now

@@ -72,7 +72,9 @@ numbered_from n (l ∷ lines) = record { number = n; line = l.line } ∷ numbere
 -- the lanes, the first of which begins at line n
 abbrev pub plans_from : ℕ → List LanePlan → List LanePlan
 plans_from n [] = []
-plans_from n (plan ∷ plans) = record { keeper = plan.keeper; lines = numbered_from (n + 1) plan.lines } ∷ plans_from (n + 1 + length plan.lines) plans
+plans_from n (plan ∷ plans) =
+    record { keeper = plan.keeper; lines = numbered_from (n + 1) plan.lines }
+    ∷ plans_from (n + 1 + length plan.lines) plans
 
 -- the script with the line numbers of its canonical text
 abbrev pub renumbered : Script → Script

@@ -1,21 +1,21 @@
 //! The lanes of a text so far.
 
-ghost use Rattle.std.specs.Prelude.{◌≡◌, ◌≤◌, true, false, codes, IfOk, OnOk, ◌++◌, option_map};
+ghost use Rattle.std.specs.Prelude.{◌≡◌, ◌≤◌, true, false, codes, IfOk, OnOk, ◌++◌, Some, is_some, option_map};
 ghost use Rattle.std.specs.Option.{option_to_list};
-ghost use Rattle.mp_script.specs.Words.{is_in, value_of};
+ghost use Rattle.mp_words.specs.Names.{policy_named, cstate_named};
+ghost use Rattle.mp_script.specs.Splitting.{is_in, value_of};
 ghost use Rattle.mp_script.specs.Shape.{shape, is_word};
-ghost use Rattle.mp_script.specs.Named.{has_numbers, has_box, is_named, is_node};
-ghost use Rattle.mp_script.specs.Places.{ArePlaces};
-ghost use Rattle.mp_script.specs.Plans.{ctrl_of, state_of, policy_of, page_of, finish_of, line_of, numbered};
+ghost use Rattle.mp_script.specs.Wording.{has_numbers, has_box, is_named, is_node, is_there, place_in};
+ghost use Rattle.mp_script.specs.Plans.{page_of, finish_of, line_of, numbered};
 ghost use Rattle.mp_script.specs.Building.{with_lines, put_line, put};
 
-use crate::known::{begins_lane, is_keeper};
-use crate::named::{policy_named, state_named};
-use crate::names::{Names, find};
+use crate::earlier::{begins_lane, is_keeper};
 use crate::script::{LanePlan, Line, Numbered1};
-use crate::shapes::{Words, is_word};
-use crate::words::{small, value_of};
-use mp_words::numbers::{Ctrl, Node, ReqId};
+use crate::setting::Setting;
+use crate::shapes::{LineShape, is_word};
+use crate::splitting::{request_of, value_of};
+use mp_words::names::{cstate_named, policy_named};
+use mp_words::numbers::{Ctrl, Node};
 use mp_words::row::{CState, Policy};
 use sqlite_items::Items;
 use std::alloc::{AllocError, Global};
@@ -27,70 +27,53 @@ pub(crate) struct Building {
     pub(crate) current: Option<LanePlan>,
 }
 
-fn request_of(word: &[u8]) -> ReqId
-    requires { is_in 0 65535 word.now ≡ true }
-    ensures { result ≡ value_of word.now }
-{
-    ReqId::make(small(0, word)).unwrap()
-}
-
-#[tactic(auto, unfolding(crate::specs::Named::is_node))]
-fn node_of(nodes: u32, word: &[u8]) -> Node
-    requires few { nodes ≤ 8 }
-    requires node { is_node nodes word.now ≡ true }
+#[tactic(auto, unfolding(crate::specs::Wording::is_node))]
+fn node_of(setting: &Setting<'_>, word: &[u8]) -> Node
+    requires { is_node setting.now.topology.now.near.nodes word.now ≡ true }
     ensures { result ≡ value_of word.now }
 {
     Node::make(value_of(word) as u32).unwrap()
 }
 
-#[tactic(auto, unfolding(crate::specs::Plans::ctrl_of))]
-fn ctrl_of<'a>(names: &Names<'a>, word: &'a [u8]) -> Ctrl
-    requires { ArePlaces names.now.controllers.now names.now.places }
-    ensures { result ≡ ctrl_of names.now.controllers.now word.now }
+#[tactic(auto, unfolding(crate::specs::Wording::is_there))]
+fn ctrl_of<'a>(setting: &Setting<'a>, word: &'a [u8]) -> Ctrl
+    requires { is_there setting.now.topology.now.controllers word.now ≡ true }
+    ensures { place_in setting.now.topology.now.controllers word.now ≡ Some result }
 {
-    match find(names, word) {
-        Some(ctrl) => ctrl,
-        None => Ctrl::make(0).unwrap(),
-    }
+    setting.find(word).unwrap()
 }
 
-#[tactic(auto, unfolding(crate::specs::Plans::state_of))]
 fn state_of(word: &[u8]) -> CState
-    ensures { result ≡ state_of word.now }
+    requires { is_some (cstate_named word.now) ≡ true }
+    ensures { cstate_named word.now ≡ Some result }
 {
-    match state_named(word) {
-        Some(state) => state,
-        None => CState::Live,
-    }
+    cstate_named(word).unwrap()
 }
 
-#[tactic(auto, unfolding(crate::specs::Plans::policy_of))]
 fn policy_of(word: &[u8]) -> Policy
-    ensures { result ≡ policy_of word.now }
+    requires { is_some (policy_named word.now) ≡ true }
+    ensures { policy_named word.now ≡ Some result }
 {
-    match policy_named(word) {
-        Some(policy) => policy,
-        None => Policy::Numa,
-    }
+    policy_named(word).unwrap()
 }
 
-#[tactic(auto, unfolding(crate::specs::Named::has_box))]
-fn box_of(pages: usize, word: &[u8]) -> u32
-    requires { has_box pages word.now ≡ true }
+#[tactic(auto, unfolding(crate::specs::Wording::has_box))]
+fn box_of(setting: &Setting<'_>, word: &[u8]) -> u32
+    requires { has_box setting.now.pages word.now ≡ true }
     ensures { result ≡ value_of word.now }
 {
     value_of(word) as u32
 }
 
 #[tactic(auto, unfolding(crate::specs::Plans::page_of))]
-fn page_of(pages: usize, word: &[u8]) -> Option<u32>
-    requires { is_word word.now (codes "-") ≡ false → has_box pages word.now ≡ true }
+fn page_of(setting: &Setting<'_>, word: &[u8]) -> Option<u32>
+    requires { is_word word.now (codes "-") ≡ false → has_box setting.now.pages word.now ≡ true }
     ensures { result ≡ page_of word.now }
 {
     if is_word(word, "-") {
         return None;
     }
-    Some(box_of(pages, word))
+    Some(box_of(setting, word))
 }
 
 #[tactic(auto, unfolding(crate::specs::Plans::finish_of))]
@@ -105,25 +88,23 @@ fn finish_of(word: &[u8]) -> Line
 }
 
 /// What a line of a lane asks for, whose words have passed the checks.
-#[tactic(auto, unfolding(crate::specs::Plans::line_of, crate::specs::Named::has_numbers, crate::specs::Named::is_named))]
-fn line_of<'a>(names: &Names<'a>, pages: usize, nodes: u32, line: Words<'a>) -> Option<Line>
-    requires places { ArePlaces names.now.controllers.now names.now.places }
-    requires nodes { nodes ≤ 8 }
-    requires numbers { has_numbers nodes (shape line) ≡ true }
-    requires named { is_named names.now.controllers.now pages (shape line) ≡ true }
-    ensures { result ≡ line_of names.now.controllers.now (shape line.entry) }
+#[tactic(auto, unfolding(crate::specs::Plans::line_of, crate::specs::Wording::has_numbers, crate::specs::Wording::is_named))]
+fn line_of<'a>(setting: &Setting<'a>, line: LineShape<'a>) -> Option<Line>
+    requires numbers { has_numbers setting.now.topology.now.near.nodes (shape line) ≡ true }
+    requires named { is_named setting.now.topology.now.controllers setting.now.pages (shape line) ≡ true }
+    ensures { result ≡ line_of setting.now.topology.now.controllers (shape line.entry) }
 {
     match line {
-        Words::Submit(r, n) => Some(Line::Submit(request_of(r), node_of(nodes, n))),
-        Words::Finish(r) => Some(finish_of(r)),
-        Words::Requeue => Some(Line::Requeue),
-        Words::Log(c, k) => Some(Line::Log(ctrl_of(names, c), box_of(pages, k))),
-        Words::Ctrl(c, s) => Some(Line::Ctrl(ctrl_of(names, c), state_of(s))),
-        Words::Anatt(c) => Some(Line::Anatt(ctrl_of(names, c))),
-        Words::Add(c, k) => Some(Line::Add(ctrl_of(names, c), page_of(pages, k))),
-        Words::Remove(c) => Some(Line::Remove(ctrl_of(names, c))),
-        Words::Reap => Some(Line::Reap),
-        Words::Policy(p) => Some(Line::Policy(policy_of(p))),
+        LineShape::Submit(r, n) => Some(Line::Submit(request_of(r), node_of(setting, n))),
+        LineShape::Finish(r) => Some(finish_of(r)),
+        LineShape::Requeue => Some(Line::Requeue),
+        LineShape::Log(c, k) => Some(Line::Log(ctrl_of(setting, c), box_of(setting, k))),
+        LineShape::Ctrl(c, s) => Some(Line::Ctrl(ctrl_of(setting, c), state_of(s))),
+        LineShape::Anatt(c) => Some(Line::Anatt(ctrl_of(setting, c))),
+        LineShape::Add(c, k) => Some(Line::Add(ctrl_of(setting, c), page_of(setting, k))),
+        LineShape::Remove(c) => Some(Line::Remove(ctrl_of(setting, c))),
+        LineShape::Reap => Some(Line::Reap),
+        LineShape::Policy(p) => Some(Line::Policy(policy_of(p))),
         _ => None,
     }
 }
@@ -162,7 +143,7 @@ fn put_line(
     alloc: Global,
     building: Building,
     number: u32,
-    line: Words<'_>,
+    line: LineShape<'_>,
     asked: Option<Line>,
 ) -> Result<Building, AllocError>
     ensures { IfOk result (λ b. b ≡ put_line (option_to_list (option_map (λ x. record { number = number; line = x }) asked)) building (shape line.entry)) }
@@ -190,19 +171,15 @@ fn put_line(
 #[tactic(auto, unfolding(crate::specs::Building::put))]
 pub(crate) fn put<'a>(
     alloc: Global,
-    names: &Names<'a>,
-    pages: usize,
-    nodes: u32,
+    setting: &Setting<'a>,
     building: Building,
     number: u32,
-    line: Words<'a>,
+    line: LineShape<'a>,
 ) -> Result<Building, AllocError>
-    requires places { ArePlaces names.now.controllers.now names.now.places }
-    requires nodes { nodes ≤ 8 }
-    requires numbers { has_numbers nodes (shape line) ≡ true }
-    requires named { is_named names.now.controllers.now pages (shape line) ≡ true }
-    ensures { IfOk result (λ b. b ≡ put names.now.controllers.now building number (shape line.entry)) }
+    requires numbers { has_numbers setting.now.topology.now.near.nodes (shape line) ≡ true }
+    requires named { is_named setting.now.topology.now.controllers setting.now.pages (shape line) ≡ true }
+    ensures { IfOk result (λ b. b ≡ put setting.now.topology.now.controllers building number (shape line.entry)) }
 {
-    let asked = line_of(names, pages, nodes, line);
+    let asked = line_of(setting, line);
     put_line(alloc, building, number, line, asked)
 }

@@ -4,17 +4,22 @@
 mod answered;
 mod building;
 mod checking;
+mod earlier;
 pub mod errors;
-mod known;
 pub mod laws;
-mod named;
-mod names;
+pub mod pages;
+mod places;
+mod progress;
 pub mod reading;
+mod requests;
 pub mod script;
+mod setting;
 mod shapes;
+mod splitting;
+mod submits;
 #[cfg(test)]
 mod tests;
-mod words;
+mod wording;
 pub mod writing;
 #[cfg(test)]
 mod writing_tests;

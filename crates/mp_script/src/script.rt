@@ -3,6 +3,7 @@
 ghost use Rattle.std.specs.Prelude.{◌≡◌, IfOk, IfErr};
 
 use crate::errors::ScriptError;
+use crate::pages::Pages;
 use mp_topology::topology::Topology;
 use mp_words::answers::Answers;
 use mp_words::numbers::{Ctrl, Node, ReqId};
@@ -71,5 +72,5 @@ pub struct Script {
 #[derive(Drop)]
 pub struct World {
     pub topology: Topology,
-    pub pages: Items<Items<u8>>,
+    pub pages: Pages,
 }

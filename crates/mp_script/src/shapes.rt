@@ -3,11 +3,11 @@
 ghost use Rattle.std.specs.Prelude.{◌≡◌};
 ghost use Rattle.mp_script.specs.Shape.{shape, shape_of, shape_0, shape_1, shape_2, shape_3, is_word, is_comment};
 
-use crate::words::split_word;
+use crate::splitting::split_word;
 
 /// A line by its first word and the number of its words.
 #[derive(Clone, Copy)]
-pub(crate) enum Words<'a> {
+pub(crate) enum LineShape<'a> {
     Skipped,
     Unknown,
     Answer(&'a [u8], &'a [u8], &'a [u8]),
@@ -41,78 +41,78 @@ fn is_comment(w: &[u8]) -> bool
 }
 
 #[tactic(auto, unfolding(crate::specs::Shape::shape_0))]
-fn shape_0(w: &[u8]) -> Words<'static>
+fn shape_0(w: &[u8]) -> LineShape<'static>
     ensures { shape result ≡ shape_0 w.now }
 {
     if is_word(w, "lane") {
-        Words::Lane
+        LineShape::Lane
     } else if is_word(w, "keeper") {
-        Words::Keeper
+        LineShape::Keeper
     } else if is_word(w, "requeue") {
-        Words::Requeue
+        LineShape::Requeue
     } else if is_word(w, "reap") {
-        Words::Reap
+        LineShape::Reap
     } else {
-        Words::Unknown
+        LineShape::Unknown
     }
 }
 
 #[tactic(auto, unfolding(crate::specs::Shape::shape_1))]
-fn shape_1<'a>(w: &[u8], a: &'a [u8]) -> Words<'a>
+fn shape_1<'a>(w: &[u8], a: &'a [u8]) -> LineShape<'a>
     ensures { shape result ≡ shape_1 w.now a.now }
 {
     if is_word(w, "finish") {
-        Words::Finish(a)
+        LineShape::Finish(a)
     } else if is_word(w, "anatt") {
-        Words::Anatt(a)
+        LineShape::Anatt(a)
     } else if is_word(w, "remove") {
-        Words::Remove(a)
+        LineShape::Remove(a)
     } else if is_word(w, "policy") {
-        Words::Policy(a)
+        LineShape::Policy(a)
     } else {
-        Words::Unknown
+        LineShape::Unknown
     }
 }
 
 #[tactic(auto, unfolding(crate::specs::Shape::shape_2))]
-fn shape_2<'a>(w: &[u8], a: &'a [u8], b: &'a [u8]) -> Words<'a>
+fn shape_2<'a>(w: &[u8], a: &'a [u8], b: &'a [u8]) -> LineShape<'a>
     ensures { shape result ≡ shape_2 w.now a.now b.now }
 {
     if is_word(w, "submit") {
-        Words::Submit(a, b)
+        LineShape::Submit(a, b)
     } else if is_word(w, "log") {
-        Words::Log(a, b)
+        LineShape::Log(a, b)
     } else if is_word(w, "ctrl") {
-        Words::Ctrl(a, b)
+        LineShape::Ctrl(a, b)
     } else if is_word(w, "add") {
-        Words::Add(a, b)
+        LineShape::Add(a, b)
     } else {
-        Words::Unknown
+        LineShape::Unknown
     }
 }
 
 #[tactic(auto, unfolding(crate::specs::Shape::shape_3))]
-fn shape_3<'a>(w: &[u8], a: &'a [u8], b: &'a [u8], c: &'a [u8]) -> Words<'a>
+fn shape_3<'a>(w: &[u8], a: &'a [u8], b: &'a [u8], c: &'a [u8]) -> LineShape<'a>
     ensures { shape result ≡ shape_3 w.now a.now b.now c.now }
 {
     if is_word(w, "answer") {
-        Words::Answer(a, b, c)
+        LineShape::Answer(a, b, c)
     } else {
-        Words::Unknown
+        LineShape::Unknown
     }
 }
 
 /// The words of a line. At most five of them are looked for.
 #[tactic(auto, unfolding(crate::specs::Shape::shape_of))]
-pub(crate) fn shape_of(line: &[u8]) -> Words<'_>
+pub(crate) fn shape_of(line: &[u8]) -> LineShape<'_>
     ensures { shape result ≡ shape_of line.now }
 {
     let (w, rest) = match split_word(line) {
         Some(found) => found,
-        None => return Words::Skipped,
+        None => return LineShape::Skipped,
     };
     if is_comment(w) {
-        return Words::Skipped;
+        return LineShape::Skipped;
     }
     let (a, rest) = match split_word(rest) {
         Some(found) => found,
@@ -127,7 +127,7 @@ pub(crate) fn shape_of(line: &[u8]) -> Words<'_>
         None => return shape_2(w, a, b),
     };
     match split_word(rest) {
-        Some(_) => Words::Unknown,
+        Some(_) => LineShape::Unknown,
         None => shape_3(w, a, b, c),
     }
 }

@@ -2,6 +2,7 @@ ghost use Rattle.std.specs.Prelude.{◌≡◌};
 ghost use Rattle.mp_topology.specs.Facts.{IsTopology};
 
 use crate::errors::ScriptError;
+use crate::pages::Pages;
 use crate::reading::read_script;
 use crate::script::{LanePlan, Line, Script};
 use mp_topology::reading::read_topology;
@@ -209,10 +210,9 @@ fn keeps_answers(rt: HostRuntime) -> Result<(), Fail> {
     let first = ReqId::make(1).ok_or("a request")?;
     let second = ReqId::make(2).ok_or("a request")?;
     for (req, attempt, status) in [(second, 1, 6), (first, 3, 0x0302), (first, 1, 0x0303)] {
-        if !answers.has(req, attempt) {
-            let added = answers.add(req, attempt, status);
-            assert!(rt; added.is_ok());
-        }
+        assert!(rt; !answers.has(req, attempt));
+        let added = answers.add(req, attempt, status);
+        assert!(rt; added.is_ok());
     }
     assert_eq!(rt; answers.len(), 3);
     assert_eq!(rt; answers.status(first, 1), 0x0303);
@@ -220,5 +220,20 @@ fn keeps_answers(rt: HostRuntime) -> Result<(), Fail> {
     assert_eq!(rt; answers.status(first, 3), 0x0302);
     assert_eq!(rt; answers.status(second, 1), 6);
     assert_eq!(rt; answers.status(second, 2), 0);
+    Ok(())
+}
+
+#[test]
+fn finds_pages(rt: HostRuntime) -> Result<(), Fail> {
+    let alloc = rt.alloc();
+    let mut boxes = Vec::new(alloc);
+    boxes.push(Vec::from_slice(alloc, b"first")?)?;
+    boxes.push(Vec::new(alloc))?;
+    let pages = Pages::from_vec(boxes);
+    assert_eq!(rt; pages.len(), 2);
+    assert_eq!(rt; pages.as_slice().len(), 2);
+    assert_eq!(rt; pages.get(0), Some(&b"first"[..]));
+    assert_eq!(rt; pages.get(1), Some(&b""[..]));
+    assert!(rt; pages.get(2).is_none());
     Ok(())
 }

@@ -15,6 +15,7 @@ use mp_words::answers::Answers;
 use mp_words::names::{cstate_name, policy_name};
 use mp_words::numbers::{Ctrl, Node, ReqId};
 use mp_words::row::{CState, Policy};
+use mp_words::status::put_status;
 use std::alloc::{AllocError, Global};
 
 /// A line of one word.
@@ -64,7 +65,9 @@ fn put_answer(text: &mut String, req: ReqId, attempt: u32, status: u16) -> Resul
     ensures { OnOk result (string_bytes text.new ≡ string_bytes text.old ++ line_text (answer_words (record { req = req; attempt = attempt; status = status }))) }
 {
     let req = req.get();
-    write!(text, "answer {req} {attempt} {status:04X}\n")
+    write!(text, "answer {req} {attempt} ")?;
+    put_status(text, status)?;
+    text.push_str("\n")
 }
 
 /// The lines of the answers.

@@ -11,7 +11,7 @@ use Rattle.std.proofs.lemmas.List.Quantifiers.{position-Some}
 use Rattle.std.proofs.lemmas.Option.{slice_get-get_or}
 use Rattle.toml.specs.Data.{Data, Members, as_str, no_members, table}
 use Rattle.mp_checks.specs.Checks.{first_fault, AllPass, each_from, if_there}
-use Rattle.mp_checks.proofs.CheckLaws.{pass_split}
+use Rattle.mp_checks.proofs.CheckLaws.{pass_split, all_pass, each_passes}
 use Rattle.mp_topology.specs.Fields.{integer_at, text_at}
 use Rattle.mp_topology.specs.Distance.{distance_checks}
 use Rattle.mp_topology.specs.Controllers.{is_name, place_of, name_checks, name_of, node_checks, node_of, ana_checks, state_checks, page_checks, page_of, fields_of, controller_of, controllers_in, controller_checks, each_controller, controller_items, items_checks, controllers_checks, controllers_of, names_in, names_of}
@@ -20,7 +20,7 @@ use Rattle.mp_topology.specs.Topology.{nsid_checks, nsid_of, anagrpmax_checks, a
 use Rattle.mp_topology.specs.Facts.{IsTopology, IsPaged}
 use Rattle.mp_topology.specs.declared.topology.Controller.{Controller}
 use Rattle.mp_topology.proofs.Places.{unlike}
-use Rattle.mp_topology.proofs.Passing.{all_pass, each_passes, needed_within, optional_within, default_within}
+use Rattle.mp_topology.proofs.Passing.{needed_within, optional_within, default_within}
 
 -- ---- the parts
 

@@ -5,15 +5,11 @@ use Rattle.std.specs.Str.{is_utf8}
 use Rattle.toml.specs.Data.{Members}
 use Rattle.toml.specs.Parse.{parse_document}
 use Rattle.mp_checks.specs.Checks.{first_fault, Answers, Reads}
-use Rattle.mp_topology.specs.Unless.{value_unless}
+use Rattle.mp_checks.proofs.CheckLaws.{reads_answers}
 use Rattle.mp_topology.specs.declared.errors.TopologyError.{TopologyError}
 use Rattle.mp_topology.specs.declared.errors.TopologyError.TheVariants.{NoMemory, NotToml}
 use Rattle.mp_topology.specs.declared.topology.Topology.{Topology}
 use Rattle.mp_topology.specs.Topology.{checks, topology_of, table_in, read_of, topology_in}
-
-reads_answers : {V E : Type 0} (memory : E) (r : Result V E) (cs : List (Bool × E)) (v : V) → Reads memory r cs v → Answers memory r (value_unless (first_fault cs) v)
-reads_answers memory (Ok x) cs v h = rw (h.0, h.1) refl
-reads_answers memory (Err e) cs v h = λ n. rw (h n) refl
 
 table_of : (bytes : List ℕ) (t : Members) → IsUtf8 bytes → parse_document bytes ≡ Some t → table_in bytes ≡ Some t
 table_of bytes t utf8 parsed = rw (is_utf8-from_IsUtf8 bytes utf8, parsed) refl

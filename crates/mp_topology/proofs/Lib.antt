@@ -6,7 +6,6 @@ pub mod EachOpening
 pub mod Filled
 pub mod Gives
 pub mod Readable
-pub mod Unless
 pub mod Passing
 pub mod Facts
 pub mod BuiltFacts

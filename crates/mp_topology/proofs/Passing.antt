@@ -1,30 +1,13 @@
--- What it means that no check of a list fails.
-use Rattle.std.proofs.Common.{◌≡◌, ℕ, ℤ, zero, suc, ◌+◌, ◌<◌, ◌≤◌, pos, negsuc, Bool, true, false, List, [], ◌∷◌, length, get_or, Option, Some, None, IfSome, is_some, cond, refl, add-zero, zero-add, arith}
+-- What it means that the check of a value passes.
+use Rattle.std.proofs.Common.{◌≡◌, ℕ, ℤ, ◌<◌, ◌≤◌, pos, negsuc, Bool, true, false, List, length, get_or, Option, Some, None, IfSome, is_some, cond, refl, arith}
 use Rattle.std.specs.Prelude.{nat_lt, unwrap_or}
 use Rattle.std.specs.List.{position, position_or_len}
 use Rattle.std.specs.Str.{bytes_eq}
 use Rattle.std.proofs.lemmas.Slice.Eq.{bytes_eq-Decides}
 use Rattle.std.proofs.lemmas.List.Sums.{fails_before_first}
 use Rattle.std.proofs.lemmas.Bool.Decides.{nat_tests}
-use Rattle.mp_checks.specs.Checks.{first_fault, AllPass, each_from, if_there}
-use Rattle.mp_checks.proofs.CheckLaws.{pass_split}
+use Rattle.mp_checks.specs.Checks.{if_there}
 use Rattle.mp_topology.specs.Fields.{is_within, number_of, optional_of}
-
-pub all_pass : {E : Type 0} (cs : List (Bool × E)) → first_fault cs ≡ None → AllPass cs
-all_pass [] h = tt
-all_pass ((true, e) ∷ cs) h = (refl, all_pass cs h)
-all_pass ((false, e) ∷ cs) h = absurd cc
-
-each_from_passes : {X E : Type 0} (f : ℕ → X → List (Bool × E)) (n : ℕ) (xs : List X) → AllPass (each_from f n xs) → (k : ℕ) (d : X) → k < length xs → AllPass (f (n + k) (get_or xs k d))
-each_from_passes f n [] h k d lt = absurd (omega arith)
-each_from_passes f n (x ∷ xs) h zero d lt = rw add-zero (pass_split (f n x) (each_from f (suc n) xs) h).0
-each_from_passes f n (x ∷ xs) h (suc k) d lt =
-    let e : n + suc k ≡ suc n + k = omega arith in
-    rw e (each_from_passes f (suc n) xs (pass_split (f n x) (each_from f (suc n) xs) h).1 k d (omega arith))
-
--- each item passes its checks
-pub each_passes : {X E : Type 0} (f : ℕ → X → List (Bool × E)) (xs : List X) → AllPass (each_from f 0 xs) → (k : ℕ) (d : X) → k < length xs → AllPass (f k (get_or xs k d))
-each_passes f xs h k d lt = rw zero-add at (each_from_passes f 0 xs h k d lt)
 
 pub needed_within : (low high : ℕ) (o : Option ℤ) → is_some o ≡ true → if_there (is_within low high) o ≡ true → (low ≤ number_of o) × (number_of o ≤ high)
 needed_within low high None there h = absurd cc

@@ -10,7 +10,8 @@ use Rattle.mp_topology.specs.declared.topology.Topology.{Topology}
 abbrev pub IsPaged : Controller → Type 0
 IsPaged c = c.ana ≡ true → IsSome c.page
 
--- what holds of each
+-- What holds of each topology that is read: the ranges of its numbers, names that are names and differ, homes that
+-- are nodes, an opening of controllers that differ, and pages below 1024.
 pub record IsTopology (t : Topology) : Type 0 where
   pub nsid : 1 ≤ t.nsid
   pub group_least : 1 ≤ t.group
@@ -28,6 +29,6 @@ pub record IsTopology (t : Topology) : Type 0 where
   pub opening_paged : All (λ p. HoldsAt IsPaged t.controllers p) t.opening
   pub pages : All (λ c. IfSome c.page (λ p. p < 1024)) t.controllers
 
--- a topology as the program can run it so far
+-- The program can run such a topology so far: its policy is NUMA.
 pub record IsBuilt (t : Topology) : Type 0 where
   pub policy : t.policy ≡ Numa

@@ -7,6 +7,7 @@ use Rattle.mp_topology.specs.declared.errors.Place.{Place}
 use Rattle.mp_topology.specs.declared.errors.TopologyError.{TopologyError}
 use Rattle.mp_topology.specs.declared.errors.TopologyError.TheVariants as errors
 
+-- the place of a field with an index
 abbrev pub at : Field → ℕ → Place
 at f i = record { field = f; index = i }
 
@@ -19,16 +20,19 @@ listed (item d ds) = d ∷ listed ds
 unfoldable pub is_missing : List ℕ → Members → Bool
 is_missing key t = is_none (get_member key t)
 
--- the whole number, the text, the truth value and the list at a key, where there is one
+-- the whole number at a key, where there is one
 unfoldable pub integer_at : List ℕ → Members → Option ℤ
 integer_at key t = option_and_then as_integer (get_member key t)
 
+-- the text at a key, where there is one
 unfoldable pub text_at : List ℕ → Members → Option (List ℕ)
 text_at key t = option_and_then as_str (get_member key t)
 
+-- the truth value at a key, where there is one
 unfoldable pub truth_at : List ℕ → Members → Option Bool
 truth_at key t = option_and_then as_bool (get_member key t)
 
+-- the list at a key, where there is one
 unfoldable pub list_at : List ℕ → Members → Option (List Data)
 list_at key t = option_map listed (option_and_then as_array (get_member key t))
 
@@ -43,18 +47,18 @@ number_of (Some (pos n)) = n
 number_of (Some (negsuc n)) = 0
 number_of None = 0
 
--- the number at a key that may be missing
+-- the number of a field that may be missing
 abbrev pub optional_of : Option ℤ → Option ℕ
 optional_of o = option_map (λ z. number_of (Some z)) o
 
--- a number that is needed
+-- the checks of a number that is needed: a whole number, and within its range
 abbrev pub number_checks : List ℕ → ℕ → ℕ → Place → Members → List (Bool × TopologyError)
 number_checks key low high place t =
     (is_some (integer_at key t), errors.Field place)
     ∷ (if_there (is_within low high) (integer_at key t), errors.Range place)
     ∷ []
 
--- a number that may be missing
+-- the checks of a number that may be missing: where it is there, a whole number and within its range
 abbrev pub optional_checks : List ℕ → ℕ → ℕ → Place → Members → List (Bool × TopologyError)
 optional_checks key low high place t =
     (is_missing key t || is_some (integer_at key t), errors.Field place)

@@ -7,10 +7,10 @@ use Rattle.mp_topology.specs.declared.errors.TopologyError.{TopologyError}
 use Rattle.mp_topology.specs.declared.errors.TopologyError.TheVariants as errors
 use Rattle.mp_topology.specs.declared.topology.Controller.{Controller}
 
--- the check of the controller at place i
+-- the check that the page of the controller at a place is below the number of boxes
 abbrev pub box_checks : ℕ → ℕ → Controller → List (Bool × TopologyError)
 box_checks boxes i c = (if_there (λ p. nat_lt p boxes) c.page, errors.Range (at field.Page i)) ∷ []
 
--- every controller's check, in order
+-- this check of each controller, in order
 unfoldable pub fits_checks : ℕ → List Controller → List (Bool × TopologyError)
 fits_checks boxes controllers = each_from (box_checks boxes) 0 controllers

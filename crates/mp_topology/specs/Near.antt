@@ -8,5 +8,6 @@ use Rattle.mp_topology.specs.declared.topology.Controller.{Controller}
 unfoldable pub homes_of : List Controller → List (Option ℕ)
 homes_of controllers = filled 64 None (map (λ c. c.node) controllers)
 
+-- the distances and homes of a topology
 abbrev pub near_of : ℕ → List (List ℕ) → List Controller → Near
 near_of nodes distance controllers = record { nodes = nodes; distance = distance; home = homes_of controllers }

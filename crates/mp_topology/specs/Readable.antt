@@ -22,4 +22,5 @@ pub record IsTableRefused (bytes : List ℕ) (refusal : TopologyError) : Type 0 
 
 -- the bytes are the text of no table, or of one that is refused
 abbrev pub IsRefused : List ℕ → TopologyError → Type 0
-IsRefused bytes refusal = (((t : Members) → IsTable bytes t → ⊥) × (refusal ≡ errors.NotToml)) ⊎ IsTableRefused bytes refusal
+IsRefused bytes refusal =
+    (((t : Members) → IsTable bytes t → ⊥) × (refusal ≡ errors.NotToml)) ⊎ IsTableRefused bytes refusal

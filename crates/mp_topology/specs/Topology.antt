@@ -1,13 +1,13 @@
 -- The topology that a table is, and the checks of the table in their order.
 use Rattle.std.specs.Prelude.{◌≡◌, IsUtf8, ℕ, Bool, true, false, if◌then◌else◌, is_some, List, [], ◌∷◌, ◌++◌, codes, Option, Some, None, Result, Err, option_and_then, unwrap_or}
-use Rattle.std.specs.Str.{bytes_eq, is_utf8}
+use Rattle.std.specs.Str.{is_utf8}
 use Rattle.toml.specs.Data.{Members}
 use Rattle.toml.specs.Parse.{parse_document}
-use Rattle.mp_checks.specs.Checks.{first_fault, if_there}
+use Rattle.mp_checks.specs.Checks.{first_fault, if_there, value_unless}
 use Rattle.mp_words.specs.declared.row.Policy.{Policy}
 use Rattle.mp_words.specs.declared.row.Policy.TheVariants.{Numa, RoundRobin, QueueDepth}
+use Rattle.mp_words.specs.Names.{policy_named}
 use Rattle.mp_topology.specs.Fields.{at, integer_at, text_at, number_of, optional_of, number_checks, optional_checks}
-use Rattle.mp_topology.specs.Unless.{value_unless}
 use Rattle.mp_topology.specs.Distance.{distance_checks, distances_of}
 use Rattle.mp_topology.specs.Controllers.{controllers_checks, controllers_of, names_of}
 use Rattle.mp_topology.specs.Opening.{opening_checks, opening_of, opening_page_checks}
@@ -19,55 +19,60 @@ use Rattle.mp_topology.specs.declared.topology.Topology.{Topology}
 
 -- ---- the numbers
 
+-- the checks of `nsid`
 unfoldable pub nsid_checks : Members → List (Bool × TopologyError)
 nsid_checks t = number_checks (codes "nsid") 1 4294967294 (at field.Nsid 0) t
 
+-- the namespace identifier of a table
 unfoldable pub nsid_of : Members → ℕ
 nsid_of t = number_of (integer_at (codes "nsid") t)
 
+-- the checks of `anagrpmax`
 unfoldable pub anagrpmax_checks : Members → List (Bool × TopologyError)
 anagrpmax_checks t = number_checks (codes "anagrpmax") 1 4294967295 (at field.Anagrpmax 0) t
 
+-- the greatest ANA group identifier of a table
 unfoldable pub anagrpmax_of : Members → ℕ
 anagrpmax_of t = number_of (integer_at (codes "anagrpmax") t)
 
+-- the checks of `group`, which may be missing
 unfoldable pub group_checks : ℕ → Members → List (Bool × TopologyError)
 group_checks anagrpmax t = optional_checks (codes "group") 1 anagrpmax (at field.Group 0) t
 
+-- the group of a table, 1 where the field is missing
 unfoldable pub group_of : Members → ℕ
 group_of t = unwrap_or (optional_of (integer_at (codes "group") t)) 1
 
+-- the checks of `nodes`
 unfoldable pub nodes_checks : Members → List (Bool × TopologyError)
 nodes_checks t = number_checks (codes "nodes") 1 8 (at field.Nodes 0) t
 
+-- the number of nodes of a table
 unfoldable pub nodes_of : Members → ℕ
 nodes_of t = number_of (integer_at (codes "nodes") t)
 
 -- ---- the policy
 
-abbrev pub policy_named : List ℕ → Option Policy
-policy_named s =
-    if bytes_eq s (codes "numa") then Some Numa
-    else if bytes_eq s (codes "round-robin") then Some RoundRobin
-    else if bytes_eq s (codes "queue-depth") then Some QueueDepth
-    else None
-
+-- the checks of `policy`
 unfoldable pub policy_checks : Members → List (Bool × TopologyError)
 policy_checks t =
     (is_some (text_at (codes "policy") t), errors.Field (at field.Policy 0))
     ∷ (if_there (λ s. is_some (policy_named s)) (text_at (codes "policy") t), errors.Range (at field.Policy 0))
     ∷ []
 
+-- the policy of a table
 unfoldable pub policy_of : Members → Policy
 policy_of t = unwrap_or (option_and_then policy_named (text_at (codes "policy") t)) Numa
 
 -- ---- what can be run so far
 
+-- the policy is NUMA
 abbrev pub is_numa : Policy → Bool
 is_numa Numa = true
 is_numa RoundRobin = false
 is_numa QueueDepth = false
 
+-- the last check of a table: the program can run it so far
 unfoldable pub built_checks : Policy → List (Bool × TopologyError)
 built_checks policy = (is_numa policy, errors.NotBuilt) ∷ []
 
@@ -106,10 +111,11 @@ pub record IsTable (bytes : List ℕ) (t : Members) : Type 0 where
 
 -- ---- of the bytes
 
--- the table whose text the bytes are
+-- the table whose text the bytes are, if they are one
 abbrev pub table_in : List ℕ → Option Members
 table_in bytes = if is_utf8 bytes then parse_document bytes else None
 
+-- the topology of a table, or why there is none
 abbrev pub read_of : Option Members → Result Topology TopologyError
 read_of None = Err errors.NotToml
 read_of (Some t) = value_unless (first_fault (checks t)) (topology_of t)

@@ -5,13 +5,14 @@ ghost use Rattle.std.specs.List.{list_all};
 ghost use Rattle.std.specs.Str.{bytes_eq};
 ghost use Rattle.mp_checks.specs.Checks.{Reads, each_from};
 ghost use Rattle.toml.specs.View.{table_view, view};
-ghost use Rattle.mp_topology.specs.Controllers.{is_name, is_name_byte, place_of, name_checks, name_of, node_checks, node_of, ana_checks, ana_of, state_named, state_checks, state_of, page_checks, page_of};
+ghost use Rattle.mp_topology.specs.Controllers.{is_name, is_name_byte, place_of, name_checks, name_of, node_checks, node_of, ana_checks, ana_of, state_checks, state_of, page_checks, page_of};
 ghost use Rattle.mp_topology.specs.Controllers.{is_table, controller_checks, controller_of, each_controller, controllers_in, items_checks, controllers_checks, controllers_of};
 
 use crate::errors::{Field, TopologyError};
 use crate::fields::{at, is_missing, list_at, optional_in, text_at, truth_at};
 use crate::topology::Controller;
 use mp_words::name::Name;
+use mp_words::names::cstate_named;
 use mp_words::numbers::{Ctrl, Node};
 use mp_words::row::CState;
 use sqlite_items::Items;
@@ -115,29 +116,13 @@ fn ana_in(index: u32, table: &Table) -> Result<bool, TopologyError>
     }
 }
 
-#[tactic(auto, unfolding(crate::specs::Controllers::state_named))]
-fn state_named(name: &str) -> Option<CState>
-    ensures { result ≡ state_named name.now }
-{
-    match name {
-        "new" => Some(CState::New),
-        "live" => Some(CState::Live),
-        "resetting" => Some(CState::Resetting),
-        "connecting" => Some(CState::Connecting),
-        "deleting" => Some(CState::Deleting),
-        "deleting-noio" => Some(CState::DeletingNoio),
-        "dead" => Some(CState::Dead),
-        _ => None,
-    }
-}
-
 /// The state, live where the field is missing.
 #[tactic(auto, unfolding(crate::specs::Controllers::state_checks, crate::specs::Controllers::state_of))]
 fn state_in(index: u32, table: &Table) -> Result<CState, TopologyError>
     ensures { Reads TopologyError.NoMemory result (state_checks index (table_view table.now)) (state_of (table_view table.now)) }
 {
     match text_at(table, "state") {
-        Some(name) => match state_named(name) {
+        Some(name) => match cstate_named(name.as_bytes()) {
             Some(state) => Ok(state),
             None => Err(TopologyError::Range(at(Field::State, index))),
         },
@@ -155,8 +140,7 @@ fn state_in(index: u32, table: &Table) -> Result<CState, TopologyError>
 fn page_in(index: u32, table: &Table) -> Result<Option<u32>, TopologyError>
     ensures { Reads TopologyError.NoMemory result (page_checks index (table_view table.now)) (page_of (table_view table.now)) }
 {
-    let page = optional_in(table, "page", 0, 1023, at(Field::Page, index))?;
-    Ok(page)
+    optional_in(table, "page", 0, 1023, at(Field::Page, index))
 }
 
 #[tactic(auto, using(mp_checks::proofs::CheckLaws::fault_append), unfolding(crate::specs::Controllers::controller_checks))]
@@ -238,8 +222,7 @@ fn controllers_from(
     if items.len() > 64 {
         return Err(TopologyError::Limit(at(Field::Controllers, 0)));
     }
-    let controllers = each_in(alloc, nodes, items)?;
-    Ok(controllers)
+    each_in(alloc, nodes, items)
 }
 
 /// The controllers, in their order.
@@ -260,10 +243,7 @@ pub(crate) fn controllers_in(
     ensures few { IfOk result (λ cs. length cs ≤ 64) }
 {
     match list_at(table, "controllers") {
-        Some(items) => {
-            let controllers = controllers_from(alloc, nodes, items)?;
-            Ok(controllers)
-        }
+        Some(items) => controllers_from(alloc, nodes, items),
         None => Err(TopologyError::Field(at(Field::Controllers, 0))),
     }
 }

@@ -111,10 +111,7 @@ fn row_in(nodes: usize, index: u32, item: &Value) -> Result<[u8; 8], TopologyErr
     ensures { Reads TopologyError.NoMemory result (row_checks nodes index (view item.now)) (row_value (view item.now)) }
 {
     match row_of(item) {
-        Some(items) => {
-            let row = row_from(nodes, index, items)?;
-            Ok(row)
-        }
+        Some(items) => row_from(nodes, index, items),
         None => Err(TopologyError::Field(at(Field::Distance, index))),
     }
 }
@@ -174,10 +171,7 @@ pub(crate) fn distance_in(nodes: u32, table: &Table) -> Result<[[u8; 8]; 8], Top
     ensures { Reads TopologyError.NoMemory result (distance_checks nodes (table_view table.now)) (distances_of nodes (table_view table.now)) }
 {
     match list_at(table, "distance") {
-        Some(items) => {
-            let rows = distance_from(nodes, items)?;
-            Ok(rows)
-        }
+        Some(items) => distance_from(nodes, items),
         None => Err(TopologyError::Field(at(Field::Distance, 0))),
     }
 }

@@ -1,8 +1,7 @@
 //! Whether the log pages of the controllers are given.
 
 ghost use Rattle.std.specs.Prelude.{◌≡◌, ◌≤◌, length};
-ghost use Rattle.mp_checks.specs.Checks.{first_fault};
-ghost use Rattle.mp_topology.specs.Unless.{value_unless};
+ghost use Rattle.mp_checks.specs.Checks.{first_fault, value_unless};
 ghost use Rattle.mp_topology.specs.Fits.{box_checks, fits_checks};
 
 use crate::errors::{Field, TopologyError};

@@ -15,3 +15,5 @@ pub mod reading;
 #[cfg(test)]
 mod tests;
 pub mod topology;
+
+pub use mp_words::near::Near;

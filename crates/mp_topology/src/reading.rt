@@ -4,7 +4,7 @@ ghost use Rattle.std.specs.Prelude.{◌≡◌, ◌≤◌, length, OnOk, IfOk, Er
 ghost use Rattle.mp_checks.specs.Checks.{Reads, Answers};
 ghost use Rattle.toml.specs.View.{table_view};
 ghost use Rattle.toml.specs.Data.{Members};
-ghost use Rattle.mp_topology.specs.Topology.{nsid_checks, nsid_of, anagrpmax_checks, anagrpmax_of, group_checks, group_of, nodes_checks, nodes_of, policy_named, policy_checks, policy_of};
+ghost use Rattle.mp_topology.specs.Topology.{nsid_checks, nsid_of, anagrpmax_checks, anagrpmax_of, group_checks, group_of, nodes_checks, nodes_of, policy_checks, policy_of};
 ghost use Rattle.mp_topology.specs.Topology.{checks, topology_of, topology_in, IsTable};
 ghost use Rattle.mp_topology.specs.Facts.{IsTopology, IsBuilt};
 
@@ -16,6 +16,7 @@ use crate::fields::{at, number_in, optional_in, text_at};
 use crate::near::homes_of;
 use crate::opening::{check_pages, opening_in};
 use crate::topology::Topology;
+use mp_words::names::policy_named;
 use mp_words::near::Near;
 use mp_words::row::Policy;
 use std::alloc::Global;
@@ -58,17 +59,6 @@ fn nodes_in(table: &Table) -> Result<u32, TopologyError>
     number_in(table, "nodes", 1, 8, at(Field::Nodes, 0))
 }
 
-fn policy_named(name: &str) -> Option<Policy>
-    ensures { result ≡ policy_named name.now }
-{
-    match name {
-        "numa" => Some(Policy::Numa),
-        "round-robin" => Some(Policy::RoundRobin),
-        "queue-depth" => Some(Policy::QueueDepth),
-        _ => None,
-    }
-}
-
 #[tactic(auto, unfolding(crate::specs::Topology::policy_checks, crate::specs::Topology::policy_of))]
 fn policy_in(table: &Table) -> Result<Policy, TopologyError>
     ensures { Reads TopologyError.NoMemory result (policy_checks (table_view table.now)) (policy_of (table_view table.now)) }
@@ -77,7 +67,7 @@ fn policy_in(table: &Table) -> Result<Policy, TopologyError>
         Some(name) => name,
         None => return Err(TopologyError::Field(at(Field::Policy, 0))),
     };
-    match policy_named(name) {
+    match policy_named(name.as_bytes()) {
         Some(policy) => Ok(policy),
         None => Err(TopologyError::Range(at(Field::Policy, 0))),
     }

@@ -35,8 +35,7 @@ pub struct Topology {
 }
 
 impl Topology {
-    ghost use Rattle.mp_checks.specs.Checks.{first_fault};
-    ghost use Rattle.mp_topology.specs.Unless.{value_unless};
+    ghost use Rattle.mp_checks.specs.Checks.{first_fault, value_unless};
     ghost use Rattle.mp_topology.specs.Controllers.{place_of};
     ghost use Rattle.mp_topology.specs.Fits.{fits_checks};
 

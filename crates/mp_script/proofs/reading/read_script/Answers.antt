@@ -1,8 +1,9 @@
 use Rattle.mp_script.specs.Script.{checks, script_of, script_in}
 use Rattle.mp_script.specs.Facts.{IsScript, IsBuilt, IsOver}
-use Rattle.mp_script.specs.Words.{lines_of}
+use Rattle.mp_script.specs.Splitting.{lines_of}
 use Rattle.mp_script.specs.declared.errors.ScriptError.TheVariants.{NoMemory}
-use Rattle.mp_script.proofs.ReadFacts.{reads_answers, read_least, read_facts, ok_each}
+use Rattle.mp_checks.proofs.CheckLaws.{reads_answers}
+use Rattle.mp_script.proofs.ReadFacts.{read_least, read_facts, ok_each}
 use Rattle.mp_script.proofs.reading.read_script.Goals as goal
 
 pub returns-clause-exact : goal.returns-clause-exact

@@ -1,0 +1,32 @@
+use Rattle.std.proofs.Common.{arith}
+use Rattle.std.proofs.lemmas.Result.{err_from_is_err_and}
+use Rattle.mp_script.proofs.Steps.{at_stops, at_more, at_end}
+use Rattle.mp_script.proofs.progress.read_lines.Goals as goal
+
+pub loop-rest-preserved : goal.loop-rest-preserved
+loop-rest-preserved c = record {
+  at = at_more c.args.setting.now.topology.now c.args.setting.now.pages c.args.bytes.now c.loop-rest.rest.now c.split_line.result.0.now c.split_line.result.1.now c.args.setting.now.submits c.loop-rest.progress _
+      c.loop-rest.invariant.at c.split_line.ensures.line c.requires c.in_ok-progress.ensures.passed c.in_ok-progress.ensures.known c.in_ok-progress.ensures.building c.in_ok-progress.ensures.number;
+  few = c.in_ok-progress.ensures.few;
+  begun = c.in_ok-progress.ensures.lanes;
+}
+
+pub returns-in_err-progress-clause-refused : goal.returns-in_err-progress-clause-refused
+returns-in_err-progress-clause-refused c =
+    let p = err_from_is_err_and c.from_residual-in_err-progress.result c.from_residual-in_err-progress.ensures.1 in
+    rw (p.1, p.2) (λ n. at_stops c.args.setting.now.topology.now c.args.setting.now.pages c.args.bytes.now c.loop-rest.rest.now c.split_line.result.0.now c.split_line.result.1.now c.args.setting.now.submits c.loop-rest.progress _
+    c.loop-rest.invariant.at c.split_line.ensures.line c.requires (λ b k. c.in_err-progress.ensures.refused b k n))
+
+pub returns-clause-answers : goal.returns-clause-answers
+returns-clause-answers c = (at_end c.args.setting.now.topology.now c.args.setting.now.pages c.args.bytes.now c.loop-rest.rest.now c.loop-rest.progress c.loop-rest.invariant.at c.loop-rest-test.ensures).1
+
+pub returns-clause-passed : goal.returns-clause-passed
+returns-clause-passed c = (at_end c.args.setting.now.topology.now c.args.setting.now.pages c.args.bytes.now c.loop-rest.rest.now c.loop-rest.progress c.loop-rest.invariant.at c.loop-rest-test.ensures).0
+
+pub returns-clause-lanes : goal.returns-clause-lanes
+returns-clause-lanes c = (at_end c.args.setting.now.topology.now c.args.setting.now.pages c.args.bytes.now c.loop-rest.rest.now c.loop-rest.progress c.loop-rest.invariant.at c.loop-rest-test.ensures).2
+
+pub returns-clause-few : goal.returns-clause-few
+returns-clause-few c =
+    let count = (at_end c.args.setting.now.topology.now c.args.setting.now.pages c.args.bytes.now c.loop-rest.rest.now c.loop-rest.progress c.loop-rest.invariant.at c.loop-rest-test.ensures).3 in
+    omega (arith, count, c.loop-rest.invariant.few)

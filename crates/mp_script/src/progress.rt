@@ -1,0 +1,135 @@
+//! What was read of a text so far.
+
+ghost use Rattle.std.specs.Prelude.{◌≡◌, ◌≤◌, ◌+◌, ◌++◌, None, Some, IfOk, IfErr, OnOk, length};
+ghost use Rattle.std.specs.Option.{option_to_list};
+ghost use Rattle.mp_checks.specs.Checks.{Reads, first_fault, each_from};
+ghost use Rattle.mp_checks.specs.Marks.{HaveSame};
+ghost use Rattle.mp_words.specs.Answers.{in_order};
+ghost use Rattle.mp_script.specs.Splitting.{lines_of};
+ghost use Rattle.mp_script.specs.Shape.{shape_of};
+ghost use Rattle.mp_script.specs.Before.{Before, each_of, answer_of, submitted_in};
+ghost use Rattle.mp_script.specs.Lines.{shape_checks, line_checks};
+ghost use Rattle.mp_script.specs.Plans.{plans};
+ghost use Rattle.mp_script.specs.Building.{IsEarlier, noted, put};
+ghost use Rattle.mp_script.specs.Script.{script_of};
+
+use crate::building::{Building, push_plan, put};
+use crate::checking::check_line;
+use crate::earlier::{Earlier, noted, nothing};
+use crate::errors::ScriptError;
+use crate::script::Script;
+use crate::setting::Setting;
+use crate::shapes::shape_of;
+use crate::splitting::split_line;
+use sqlite_items::Items;
+use std::alloc::{AllocError, Global};
+
+/// How many lines were read, what is known of them, and their lanes.
+#[derive(Drop)]
+pub(crate) struct Progress {
+    pub(crate) number: u32,
+    pub(crate) earlier: Earlier,
+    pub(crate) building: Building,
+}
+
+/// What was read with one line more.
+fn read_line<'a>(
+    alloc: Global,
+    setting: &Setting<'a>,
+    progress: Progress,
+    line: &'a [u8],
+) -> Result<Progress, ScriptError>
+    requires number { progress.number ≤ 65536 }
+    requires lanes { progress.earlier.lanes ≤ 16 }
+    ensures refused { (b : Before) → IsEarlier progress.earlier b → IfErr result (λ e. (e ≡ ScriptError.NoMemory → ⊥) → first_fault (shape_checks setting.now.topology.now setting.now.pages setting.now.submits b (progress.number + 1) (shape_of line.now)) ≡ Some e) }
+    ensures passed { (b : Before) → IsEarlier progress.earlier b → OnOk result (first_fault (shape_checks setting.now.topology.now setting.now.pages setting.now.submits b (progress.number + 1) (shape_of line.now)) ≡ None) }
+    ensures known { (b : Before) → IsEarlier progress.earlier b → IfOk result (λ p. IsEarlier p.earlier (noted b (shape_of line.now))) }
+    ensures building { IfOk result (λ p. p.building ≡ put setting.now.topology.now.controllers progress.building (progress.number + 1) (shape_of line.now)) }
+    ensures number { IfOk result (λ p. p.number ≡ progress.number + 1) }
+    ensures few { IfOk result (λ p. p.number ≤ 65536) }
+    ensures lanes { IfOk result (λ p. p.earlier.lanes ≤ 16) }
+{
+    let Progress {
+        number,
+        earlier,
+        building,
+    } = progress;
+    let number = number + 1;
+    let line = shape_of(line);
+    check_line(setting, &earlier, number, line)?;
+    let building = put(alloc, setting, building, number, line)?;
+    let earlier = noted(earlier, setting.nodes(), line)?;
+    Ok(Progress {
+        number,
+        earlier,
+        building,
+    })
+}
+
+/// What was read of the lines of a text.
+fn read_lines<'a>(
+    alloc: Global,
+    setting: &Setting<'a>,
+    bytes: &'a [u8],
+) -> Result<Progress, ScriptError>
+    requires { HaveSame setting.now.submits (submitted_in setting.now.topology.now.near.nodes (lines_of bytes.now)) }
+    ensures refused { IfErr result (λ e. (e ≡ ScriptError.NoMemory → ⊥) → first_fault (each_from (line_checks setting.now.topology.now setting.now.pages (lines_of bytes.now)) 0 (lines_of bytes.now)) ≡ Some e) }
+    ensures passed { OnOk result (first_fault (each_from (line_checks setting.now.topology.now setting.now.pages (lines_of bytes.now)) 0 (lines_of bytes.now)) ≡ None) }
+    ensures few { OnOk result (length (lines_of bytes.now) ≤ 65536) }
+    ensures answers { IfOk result (λ p. p.earlier.answered ≡ in_order (each_of answer_of (lines_of bytes.now))) }
+    ensures lanes { IfOk result (λ p. p.building.done ++ option_to_list p.building.current ≡ plans setting.now.topology.now.controllers 1 (lines_of bytes.now)) }
+{
+    let mut progress = Progress {
+        number: 0,
+        earlier: nothing(alloc)?,
+        building: Building {
+            done: Items::new(alloc),
+            current: None,
+        },
+    };
+    let mut rest = bytes;
+    while !rest.is_empty() {
+        let (line, after) = split_line(rest);
+        progress = read_line(alloc, setting, progress, line)?;
+        rest = after;
+    }
+    Ok(progress)
+}
+
+/// The script of what was read.
+fn script_of(alloc: Global, progress: Progress) -> Result<Script, AllocError>
+    ensures { IfOk result (λ s. s ≡ record { answers = progress.earlier.answered; lanes = progress.building.done ++ option_to_list progress.building.current }) }
+{
+    let Progress {
+        number: _,
+        earlier,
+        building,
+    } = progress;
+    let answers = earlier.answered.answers(alloc)?;
+    let Building { mut done, current } = building;
+    push_plan(&mut done, current)?;
+    Ok(Script {
+        answers,
+        lanes: done,
+    })
+}
+
+/// The script of the lines of a text, where none has a fault.
+///
+/// # Errors
+///
+/// The refusal of the first line that has a fault, of its first check that fails; `NoMemory` where memory runs out.
+#[tactic(auto, unfolding(crate::specs::Script::script_of))]
+pub(crate) fn script_in<'a>(
+    alloc: Global,
+    setting: &Setting<'a>,
+    bytes: &'a [u8],
+) -> Result<Script, ScriptError>
+    requires { HaveSame setting.now.submits (submitted_in setting.now.topology.now.near.nodes (lines_of bytes.now)) }
+    ensures few { OnOk result (length (lines_of bytes.now) ≤ 65536) }
+    ensures read { Reads ScriptError.NoMemory result (each_from (line_checks setting.now.topology.now setting.now.pages (lines_of bytes.now)) 0 (lines_of bytes.now)) (script_of setting.now.topology.now.controllers (lines_of bytes.now)) }
+{
+    let progress = read_lines(alloc, setting, bytes)?;
+    let script = script_of(alloc, progress)?;
+    Ok(script)
+}

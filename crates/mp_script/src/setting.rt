@@ -1,0 +1,81 @@
+//! What a script is read over.
+
+ghost use Rattle.std.specs.Prelude.{◌≡◌, ◌≤◌, length, slice_get};
+ghost use Rattle.mp_script.specs.Wording.{place_in, reports_ana, has_ana, is_there, has_box};
+ghost use Rattle.mp_script.specs.Places.{HasPlaces};
+
+use crate::requests::Requests;
+use crate::splitting::value_of;
+use mp_topology::topology::{Controller, Topology};
+use mp_words::numbers::Ctrl;
+use std::collections::BTreeMap;
+
+/// What a script is read over: the topology, the place of each controller by its name, how many boxes there are, and
+/// the requests that some line of the text submits.
+#[derive(Drop)]
+pub(crate) struct Setting<'a> {
+    pub(crate) topology: &'a Topology,
+    pub(crate) places: BTreeMap<&'a [u8], Ctrl>,
+    pub(crate) pages: usize,
+    pub(crate) submits: Requests,
+    ghost few: { length topology.now.controllers ≤ 64 },
+    ghost nodes: { topology.now.near.nodes ≤ 8 },
+    ghost found: { HasPlaces topology.now.controllers places },
+}
+
+impl<'a> Setting<'a> {
+    /// How many nodes there are.
+    pub(crate) fn nodes(&self) -> u32
+        ensures number { result ≡ self.now.topology.now.near.nodes }
+        ensures few { result ≤ 8 }
+    {
+        u32::from(self.topology.near.nodes)
+    }
+
+    /// The controller of a name: `None` exactly where none has it.
+    pub(crate) fn find(&self, word: &'a [u8]) -> Option<Ctrl>
+        ensures { result ≡ place_in self.now.topology.now.controllers word.now }
+    {
+        match self.places.get(&word) {
+            Some(ctrl) => Some(*ctrl),
+            None => None,
+        }
+    }
+
+    /// Whether a controller has this name.
+    #[tactic(auto, unfolding(crate::specs::Wording::is_there))]
+    pub(crate) fn is_there(&self, word: &'a [u8]) -> bool
+        ensures { result ≡ is_there self.now.topology.now.controllers word.now }
+    {
+        self.find(word).is_some()
+    }
+
+    /// Whether a controller with ANA has this name.
+    #[tactic(auto, unfolding(crate::specs::Wording::has_ana))]
+    pub(crate) fn has_ana(&self, word: &'a [u8]) -> bool
+        ensures { result ≡ has_ana self.now.topology.now.controllers word.now }
+    {
+        match self.find(word) {
+            Some(ctrl) => reports_ana(self.topology.controllers.as_slice(), ctrl.get() as usize),
+            None => false,
+        }
+    }
+
+    /// Whether there is a box with this number.
+    #[tactic(auto, unfolding(crate::specs::Wording::has_box))]
+    pub(crate) fn has_box(&self, word: &[u8]) -> bool
+        ensures { result ≡ has_box self.now.pages word.now }
+    {
+        let page = value_of(word);
+        page < self.pages as u64 && page <= 4_294_967_295
+    }
+}
+
+fn reports_ana(controllers: &[Controller], place: usize) -> bool
+    ensures { result ≡ reports_ana (slice_get controllers.now place) }
+{
+    match controllers.get(place) {
+        Some(controller) => controller.ana,
+        None => false,
+    }
+}
