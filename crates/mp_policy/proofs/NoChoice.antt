@@ -1,11 +1,10 @@
 -- When no path is chosen.
-use Rattle.std.proofs.Common.{◌≡◌, ◌↔◌, ℕ, Bool, true, false, ◌&&◌, ◌||◌, ◌==◌, List, [], ◌∷◌, ◌++◌, ◌⊎◌, inl, inr, Option, Some, None, fold, filter, refl, sym, ◌∙◌, ap, append_assoc, append-nil, arith}
-use Rattle.std.specs.List.{list_any}
+use Rattle.std.proofs.Common.{◌≡◌, ◌↔◌, ℕ, Bool, true, false, ◌&&◌, ◌||◌, ◌==◌, List, [], ◌∷◌, ◌++◌, inl, inr, Option, Some, None, filter, refl, sym, ◌∙◌, ap, append_assoc, append-nil}
 use Rattle.std.specs.Option.{option_or, option_map}
 use Rattle.std.proofs.lemmas.Bool.{cases_Bool}
 use Rattle.mp_words.specs.Row.{is_usable, is_enabled}
-use Rattle.mp_policy.specs.declared.path.Path.{Path}
-use Rattle.mp_policy.specs.PathTable.{is_in}
+use Rattle.mp_words.specs.declared.path.Path.{Path}
+use Rattle.mp_words.specs.PathTable.{is_in}
 use Rattle.mp_policy.specs.Choices.{first_nearest, nearest_choice, has_usable}
 use Rattle.mp_policy.specs.Nearer.{nearer_of}
 use Rattle.mp_policy.proofs.Least.{IsLeastOf, least_more}
@@ -36,7 +35,7 @@ cons_not : (p : Path) (ps : List Path) → p ∷ ps ≡ [] → ⊥
 cons_not p ps e = cc
 
 -- without a path in one state the first of a list isn't in it
-filter_first : (test : Path → Bool) (p : Path) (ps : List Path) → filter test (p ∷ ps) ≡ [] → (test p ≡ false) × (filter test ps ≡ [])
+pub filter_first : (test : Path → Bool) (p : Path) (ps : List Path) → filter test (p ∷ ps) ≡ [] → (test p ≡ false) × (filter test ps ≡ [])
 filter_first test p ps e =
     elim (cases_Bool (test p)) [
       | inl on ↦ absurd (cons_not p (filter test ps) (rw on at e))
@@ -58,7 +57,7 @@ usable_none (p ∷ ps) e =
     let rest = usable_none ps parts.1 in
     (rw which.0 rest.0, rw which.1 rest.1)
 
-or_none : (a b : Option Path) → option_or a b ≡ None → (a ≡ None) × (b ≡ None)
+pub or_none : (a b : Option Path) → option_or a b ≡ None → (a ≡ None) × (b ≡ None)
 or_none None b e = (refl, e)
 or_none (Some p) b e = absurd cc
 

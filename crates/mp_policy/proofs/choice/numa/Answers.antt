@@ -1,5 +1,5 @@
-use Rattle.std.proofs.Common.{◌≡◌, ◌∙◌, sym, refl, None}
-use Rattle.mp_policy.specs.PathTable.{paths_of}
+use Rattle.std.proofs.Common.{◌∙◌, sym, refl}
+use Rattle.mp_words.specs.PathTable.{paths_of}
 use Rattle.mp_policy.specs.Choices.{distance_to, numa_choice}
 use Rattle.mp_policy.proofs.NoChoice.{nearest_choice-none, slot_none}
 use Rattle.mp_policy.proofs.choice.numa.Goals as goal
@@ -9,7 +9,7 @@ returns c =
     let paths = paths_of c.args.reading.now in
     let chosen = numa_choice c.args.near.now c.args.node paths in
     let none = nearest_choice-none (distance_to c.args.near.now c.args.node) paths in
-    let is = c.slot_of.ensures ∙ rw c.numa_path-path.ensures refl in
+    let is = c.slot_of.ensures ∙ rw c.nearest_of_both-path.ensures refl in
     let slot = slot_none chosen in
     record {
       choice = is;

@@ -1,13 +1,12 @@
-use Rattle.std.proofs.Common.{◌≡◌, ◌<◌, length, arith, sym, ◌∙◌}
-use Rattle.mp_policy.specs.PathTable.{paths_of, is_in}
-use Rattle.mp_policy.specs.Choices.{distance_to}
+use Rattle.std.proofs.Common.{sym, ◌∙◌}
+use Rattle.mp_words.specs.PathTable.{paths_of, is_in}
 use Rattle.mp_policy.proofs.Least.{least_taken, least_passed}
-use Rattle.mp_policy.proofs.choice.nearest.Goals as goal
-use Rattle.mp_policy.proofs.choice.nearest.Goals.{then-is_candidate, else-is_candidate}
+use Rattle.mp_policy.proofs.nearest.nearest.Goals as goal
+use Rattle.mp_policy.proofs.nearest.nearest.Goals.{then-is_candidate, else-is_candidate}
 
 pub loop-place-preserved : goal.loop-place-preserved
-loop-place-preserved c =
-    let d = distance_to c.args.near.now c.args.node in
+loop-place-preserved g c =
+    let d = g.D.Distance.far c.args.by.now in
     let paths = paths_of c.args.reading.now in
     let l = c.loop-place in
     elim c.if-is_candidate.branch [

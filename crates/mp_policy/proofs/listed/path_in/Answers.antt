@@ -1,11 +1,11 @@
-use Rattle.std.proofs.Common.{◌≡◌, ◌<◌, ◌≤◌, ℕ, List, length, take, map, min, get_or, arith, refl, sym, ◌∙◌, ap}
+use Rattle.std.proofs.Common.{◌≡◌, ◌<◌, ℕ, List, length, take, get_or, arith, refl, sym, ◌∙◌}
 use Rattle.std.proofs.lemmas.List.{length-map, length-take, get_or-map, get_or-take}
 use Rattle.std.proofs.lemmas.Slice.Zip.{get_or-zip, length-zip}
 use Rattle.std.specs.Prelude.{zip}
 use Rattle.mp_words.specs.declared.row.Row.{Row}
-use Rattle.mp_policy.specs.declared.path.Path.{Path}
-use Rattle.mp_policy.specs.PathTable.{path_of}
-use Rattle.mp_policy.proofs.choice.path_in.Goals as goal
+use Rattle.mp_words.specs.declared.path.Path.{Path}
+use Rattle.mp_words.specs.PathTable.{path_of}
+use Rattle.mp_policy.proofs.listed.path_in.Goals as goal
 
 pub returns : goal.returns
 returns c =

@@ -1,9 +1,0 @@
-use Rattle.std.proofs.Common.{take, filter}
-use Rattle.mp_policy.specs.PathTable.{paths_of, is_in}
-use Rattle.mp_policy.specs.Choices.{distance_to}
-use Rattle.mp_policy.proofs.Least.{IsLeastOf}
-use Rattle.mp_policy.proofs.choice.nearest.Given as goal
-
--- the choice among the paths so far
-abbrev pub invariant-loop-place : goal.invariant-loop-place
-invariant-loop-place l = IsLeastOf (distance_to l.near l.node) (filter (is_in l.state) (take l.place (paths_of l.reading))) l.best
