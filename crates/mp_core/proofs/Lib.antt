@@ -1,0 +1,4 @@
+pub mod Reading
+pub mod Begun
+pub mod Seats
+pub mod Flights

@@ -1,0 +1,9 @@
+pub mod Memory
+pub mod Notes
+pub mod Status
+pub mod Unpacked
+pub mod Core
+pub mod Views
+pub mod Kinds
+pub mod Reads
+pub mod Seats

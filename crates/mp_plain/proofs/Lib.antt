@@ -1,0 +1,7 @@
+pub mod Words
+pub mod Lanes
+pub mod LaneKinds
+pub mod KeeperKinds
+pub mod Opening
+pub mod Worked
+pub mod Stages

@@ -1,0 +1,74 @@
+use Rattle.std.proofs.Common.{rules, ◌≡◌, ◌≢◌, ◌∙◌, ◌<◌, ◌≤◌, ◌+◌, ◌-◌, ℕ, List, set, inl, inr, Option, Some, None, true, false, sym, ap, subst, refl, arith}
+use Rattle.atomic_table.specs.Seated.{TableId}
+use Rattle.mp_words.specs.declared.entry.OrderEntry.{OrderEntry}
+use Rattle.mp_words.specs.declared.entry.RowEntry.{RowEntry}
+use Rattle.mp_words.specs.declared.flight.Flight.{Flight}
+use Rattle.mp_words.specs.declared.note.Note.{Note}
+use Rattle.mp_words.specs.declared.order.Order.{Order}
+use Rattle.mp_words.specs.declared.row.Row.{Row}
+use Rattle.mp_words.specs.declared.words.Side.{Side}
+use Rattle.mp_words.specs.Row.{is_given}
+use Rattle.mp_words.specs.Facts.{IsRow}
+use Rattle.mp_core.specs.declared.view.Section.{Section}
+use Rattle.mp_core.specs.declared.view.Seats.{Seats}
+use Rattle.mp_core.specs.declared.view.View.{View}
+use Rattle.mp_core.specs.Core.{Core}
+use Rattle.mp_core.specs.Memory.{Memory, side_at, row_at, depth_at, current_at, entered_in, left_in, row_in, order_in, flipped_in, sent_in, landed_in, current_in, cleared_in}
+use Rattle.mp_core.specs.Notes.{with_note, row_noted, order_noted, flight_noted, depth_noted, current_noted}
+use Rattle.mp_core.specs.Seats.{view_of}
+use Rattle.mp_core.specs.Kinds.{OrderTold, RowTold, RowMoved, Changes, entry_of, flight_of}
+use Rattle.mp_core.proofs.Flights.{has_flies}
+use Rattle.mp_rule.proofs.Ops.{lane_lawful}
+use Rattle.mp_core.specs.Unpacked.{unpacked}
+use Rattle.mp_core.specs.Views as view
+use Rattle.mp_core.specs.Views.{opened, last_version}
+use Rattle.mp_rule.proofs.Told.{told_is, told_row, told_order, told_moved}
+use Rattle.mp_plain.specs.declared.ledger.Ruled.{Ruled}
+use Rattle.mp_plain.specs.Lanes.{lane_turn, keeper_turn, unit_turn, part_of, keeper_of, views_of, core_at}
+use Rattle.mp_plain.specs.Stands.{Stands, units_of}
+use Rattle.mp_plain.proofs.Lanes.{mirror, core_after, core_step, units_same, units_taken, stands_as}
+use Rattle.mp_plain.proofs.LaneKinds as lane
+use Rattle.mp_plain.proofs.KeeperKinds as keeper
+use Rattle.mp_plain.proofs.steps.PlainSteps.enter.Goals as goal
+
+pub enter-section-requires-clause-entries : goal.enter-section-requires-clause-entries
+enter-section-requires-clause-entries c =
+    let a = c.args.self.now in
+    let m = unpacked a.words in
+    let r = a.ledger.seat.me.0 in
+    let f = (lane.entries_fit m r a.lane c.args.side a.range c.requires.left a.rule).0 in
+    omega arith
+
+pub enter-section-requires-clause-inside : goal.enter-section-requires-clause-inside
+enter-section-requires-clause-inside c =
+    let a = c.args.self.now in
+    let m = unpacked a.words in
+    let r = a.ledger.seat.me.0 in
+    let f = lane.entries_fit m r a.lane c.args.side a.range c.requires.left a.rule in
+    let e = f.0 in
+    let i = f.1 in
+    omega arith
+
+pub invariant_of-self : goal.invariant_of-self
+invariant_of-self c =
+    let a = c.args.self.now in
+    let m = unpacked a.words in
+    let r = a.ledger.seat.me.0 in
+    record {
+      range = a.range;
+      units = ap (λ (x : Ruled). units_of x.seats) c.enter-section.ensures.view ∙ units_taken m r a.lane c.get.result a.left (view.entered c.enter-section.result (view_of a.lane r.seats)) a.range a.rule a.units c.get.ensures.number refl;
+      packed = c.enter-section.ensures.packed a.packed;
+      rule = stands_as _ _ _ _ c.enter-section.ensures.words (c.enter-section.ensures.view ∙ ap (λ (x : Section). lane_turn a.lane (view.entered x) r) c.enter-section.ensures.section) (lane.entered_stands m r a.lane c.args.side a.range c.requires.side c.requires.closed c.requires.left a.rule);
+    }
+
+pub returns : goal.returns
+returns c =
+    let a = c.args.self.now in
+    let m = unpacked a.words in
+    let r = a.ledger.seat.me.0 in
+    let t = ap (λ (x : Section). x.note.ticket) c.enter-section.ensures.section in
+    record {
+      section = c.enter-section.ensures.section ∙ ap (opened a.lane c.args.side) (sym t);
+      after = core_after a.ledger.seat.table_id _ a.lane _ _ (entered_in c.args.side m) _ (c.enter-section.ensures.home) (ap (λ (x : Ruled). x.seats) (c.enter-section.ensures.view)) c.enter-section.ensures.words _ (core_step a.ledger.seat.table_id a.lane m (entered_in c.args.side m) r (view.entered c.enter-section.result (view_of a.lane r.seats)) a.range a.rule);
+      told = told_is (core_at a.ledger.seat.table_id a.lane r.seats m) m (λ n. c.enter-section.result.note.ticket ≡ (side_at n c.args.side).entries) refl t;
+    }

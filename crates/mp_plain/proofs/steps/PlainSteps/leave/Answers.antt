@@ -1,0 +1,65 @@
+use Rattle.std.proofs.Common.{rules, ◌≡◌, ◌≢◌, ◌∙◌, ◌<◌, ◌≤◌, ◌+◌, ◌-◌, ℕ, List, set, inl, inr, Option, Some, None, true, false, sym, ap, subst, refl, arith}
+use Rattle.atomic_table.specs.Seated.{TableId}
+use Rattle.mp_words.specs.declared.entry.OrderEntry.{OrderEntry}
+use Rattle.mp_words.specs.declared.entry.RowEntry.{RowEntry}
+use Rattle.mp_words.specs.declared.flight.Flight.{Flight}
+use Rattle.mp_words.specs.declared.note.Note.{Note}
+use Rattle.mp_words.specs.declared.order.Order.{Order}
+use Rattle.mp_words.specs.declared.row.Row.{Row}
+use Rattle.mp_words.specs.declared.words.Side.{Side}
+use Rattle.mp_words.specs.Row.{is_given}
+use Rattle.mp_words.specs.Facts.{IsRow}
+use Rattle.mp_core.specs.declared.view.Section.{Section}
+use Rattle.mp_core.specs.declared.view.Seats.{Seats}
+use Rattle.mp_core.specs.declared.view.View.{View}
+use Rattle.mp_core.specs.Core.{Core}
+use Rattle.mp_core.specs.Memory.{Memory, side_at, row_at, depth_at, current_at, entered_in, left_in, row_in, order_in, flipped_in, sent_in, landed_in, current_in, cleared_in}
+use Rattle.mp_core.specs.Notes.{with_note, row_noted, order_noted, flight_noted, depth_noted, current_noted}
+use Rattle.mp_core.specs.Seats.{view_of}
+use Rattle.mp_core.specs.Kinds.{OrderTold, RowTold, RowMoved, Changes, entry_of, flight_of}
+use Rattle.mp_core.proofs.Flights.{has_flies}
+use Rattle.mp_rule.proofs.Ops.{lane_lawful}
+use Rattle.mp_core.specs.Unpacked.{unpacked}
+use Rattle.mp_core.specs.Views as view
+use Rattle.mp_core.specs.Views.{opened, last_version}
+use Rattle.mp_rule.proofs.Told.{told_is, told_row, told_order, told_moved}
+use Rattle.mp_plain.specs.declared.ledger.Ruled.{Ruled}
+use Rattle.mp_plain.specs.Lanes.{lane_turn, keeper_turn, unit_turn, part_of, keeper_of, views_of, core_at}
+use Rattle.mp_plain.specs.Stands.{Stands, units_of}
+use Rattle.mp_plain.proofs.Lanes.{mirror, core_after, core_step, units_same, units_taken, stands_as}
+use Rattle.mp_plain.proofs.LaneKinds as lane
+use Rattle.mp_plain.proofs.KeeperKinds as keeper
+use Rattle.mp_plain.proofs.steps.PlainSteps.leave.Goals as goal
+
+pub leave-requires-clause-side : goal.leave-requires-clause-side
+leave-requires-clause-side c =
+    let a = c.args.self.now in
+    let m = unpacked a.words in
+    let r = a.ledger.seat.me.0 in
+    (lane.formed m r a.lane c.args.section a.range c.requires.open a.rule).side
+
+pub leave-requires-clause-inside : goal.leave-requires-clause-inside
+leave-requires-clause-inside c =
+    let a = c.args.self.now in
+    let m = unpacked a.words in
+    let r = a.ledger.seat.me.0 in
+    lane.one_inside m r a.lane c.args.section a.range c.requires.open a.rule
+
+pub invariant_of-self : goal.invariant_of-self
+invariant_of-self c =
+    let a = c.args.self.now in
+    let m = unpacked a.words in
+    let r = a.ledger.seat.me.0 in
+    record {
+      range = a.range;
+      units = ap (λ (x : Ruled). units_of x.seats) (c.leave.ensures.view) ∙ units_same r a.lane (view.finished c.args.section (view_of a.lane r.seats)) refl ∙ a.units;
+      packed = c.leave.ensures.packed a.packed;
+      rule = stands_as _ _ _ _ c.leave.ensures.words c.leave.ensures.view (lane.finished_stands m r a.lane c.args.section a.range c.requires.open a.rule);
+    }
+
+pub returns-clause-kind : goal.returns-clause-kind
+returns-clause-kind c =
+    let a = c.args.self.now in
+    let m = unpacked a.words in
+    let r = a.ledger.seat.me.0 in
+    record { after = core_after a.ledger.seat.table_id _ a.lane _ _ (left_in c.args.section.note.side m) _ (c.leave.ensures.home) (ap (λ (x : Ruled). x.seats) (c.leave.ensures.view)) c.leave.ensures.words _ (core_step a.ledger.seat.table_id a.lane m (left_in c.args.section.note.side m) r (view.finished c.args.section (view_of a.lane r.seats)) a.range a.rule) }

@@ -1,0 +1,70 @@
+use Rattle.std.proofs.Common.{rules, ◌≡◌, ◌≢◌, ◌∙◌, ◌<◌, ◌≤◌, ◌+◌, ◌-◌, ℕ, List, set, inl, inr, Option, Some, None, true, false, sym, ap, subst, refl, arith}
+use Rattle.atomic_table.specs.Seated.{TableId}
+use Rattle.mp_words.specs.declared.entry.OrderEntry.{OrderEntry}
+use Rattle.mp_words.specs.declared.entry.RowEntry.{RowEntry}
+use Rattle.mp_words.specs.declared.flight.Flight.{Flight}
+use Rattle.mp_words.specs.declared.note.Note.{Note}
+use Rattle.mp_words.specs.declared.order.Order.{Order}
+use Rattle.mp_words.specs.declared.row.Row.{Row}
+use Rattle.mp_words.specs.declared.words.Side.{Side}
+use Rattle.mp_words.specs.Row.{is_given}
+use Rattle.mp_words.specs.Facts.{IsRow}
+use Rattle.mp_core.specs.declared.view.Section.{Section}
+use Rattle.mp_core.specs.declared.view.Seats.{Seats}
+use Rattle.mp_core.specs.declared.view.View.{View}
+use Rattle.mp_core.specs.Core.{Core}
+use Rattle.mp_core.specs.Memory.{Memory, side_at, row_at, depth_at, current_at, entered_in, left_in, row_in, order_in, flipped_in, sent_in, landed_in, current_in, cleared_in}
+use Rattle.mp_core.specs.Notes.{with_note, row_noted, order_noted, flight_noted, depth_noted, current_noted}
+use Rattle.mp_core.specs.Seats.{view_of}
+use Rattle.mp_core.specs.Kinds.{OrderTold, RowTold, RowMoved, Changes, entry_of, flight_of}
+use Rattle.mp_core.proofs.Flights.{has_flies}
+use Rattle.mp_rule.proofs.Ops.{lane_lawful}
+use Rattle.mp_core.specs.Unpacked.{unpacked}
+use Rattle.mp_core.specs.Views as view
+use Rattle.mp_core.specs.Views.{opened, last_version}
+use Rattle.mp_rule.proofs.Told.{told_is, told_row, told_order, told_moved}
+use Rattle.mp_plain.specs.declared.ledger.Ruled.{Ruled}
+use Rattle.mp_plain.specs.Lanes.{lane_turn, keeper_turn, unit_turn, part_of, keeper_of, views_of, core_at}
+use Rattle.mp_plain.specs.Stands.{Stands, units_of}
+use Rattle.mp_plain.proofs.Lanes.{mirror, core_after, core_step, units_same, units_taken, stands_as}
+use Rattle.mp_plain.proofs.LaneKinds as lane
+use Rattle.mp_plain.proofs.KeeperKinds as keeper
+use Rattle.mp_plain.proofs.steps.PlainSteps.send.Goals as goal
+
+pub version_of-version-requires-clause-within : goal.version_of-version-requires-clause-within
+version_of-version-requires-clause-within c =
+    let a = c.args.self.now in
+    let m = unpacked a.words in
+    let r = a.ledger.seat.me.0 in
+    let s = c.args.section.now in
+    (lane.formed m r a.lane s a.range c.requires.open a.rule).within
+
+pub send-requires : goal.send-requires
+send-requires c =
+    let a = c.args.self.now in
+    let m = unpacked a.words in
+    let r = a.ledger.seat.me.0 in
+    (lane.depth_fits m r a.lane c.args.slot a.range a.rule).1
+
+pub invariant_of-self : goal.invariant_of-self
+invariant_of-self c =
+    let a = c.args.self.now in
+    let m = unpacked a.words in
+    let r = a.ledger.seat.me.0 in
+    let s = c.args.section.now in
+    let flight : record { slot = c.args.slot; version = c.version_of-version.result; req = c.args.req; lane = a.lane } ≡ flight_of a.lane s c.args.slot c.args.req = (λ i. record { slot = c.args.slot; version = c.version_of-version.ensures i; req = c.args.req; lane = a.lane }) in
+    record {
+      range = a.range;
+      units = ap (λ (x : Ruled). units_of x.seats) (c.send.ensures.view) ∙ units_same r a.lane (view.flown (record { slot = c.args.slot; version = c.version_of-version.result; req = c.args.req; lane = a.lane }) (record s { sent = true }) (view_of a.lane r.seats)) refl ∙ a.units;
+      packed = c.send.ensures.packed a.packed;
+      rule = stands_as _ _ _ _ c.send.ensures.words (c.send.ensures.view ∙ ap (λ (x : Flight). lane_turn a.lane (view.flown x (record s { sent = true })) r) flight) (lane.flown_stands m r a.lane c.args.slot c.args.req s a.range c.send.ensures.below c.requires.open c.requires.usable c.requires.once a.rule);
+    }
+
+pub returns : goal.returns
+returns c =
+    let a = c.args.self.now in
+    let m = unpacked a.words in
+    let r = a.ledger.seat.me.0 in
+    let s = c.args.section.now in
+    let flight : record { slot = c.args.slot; version = c.version_of-version.result; req = c.args.req; lane = a.lane } ≡ flight_of a.lane s c.args.slot c.args.req = (λ i. record { slot = c.args.slot; version = c.version_of-version.ensures i; req = c.args.req; lane = a.lane }) in
+    record { flight = flight; section = refl; after = core_after a.ledger.seat.table_id _ a.lane _ _ (sent_in c.args.slot m) _ (c.send.ensures.home) (ap (λ (x : Ruled). x.seats) (c.send.ensures.view)) c.send.ensures.words _ (core_step a.ledger.seat.table_id a.lane m (sent_in c.args.slot m) r (view.flown (record { slot = c.args.slot; version = c.version_of-version.result; req = c.args.req; lane = a.lane }) (record s { sent = true }) (view_of a.lane r.seats)) a.range a.rule) }

@@ -1,0 +1,5 @@
+use Rattle.mp_rule.proofs.Promises.{order_told as holds}
+use Rattle.mp_rule.proofs.callers.loads_of_the_list_never_go_back.Goals as goal
+
+pub returns : goal.returns
+returns c = holds

@@ -1,0 +1,5 @@
+use Rattle.mp_rule.proofs.Methods.{clear_current as holds}
+use Rattle.mp_rule.proofs.lane_steps.a_clear_of_a_current_word.Goals as goal
+
+pub returns : goal.returns
+returns c = holds
