@@ -1,6 +1,7 @@
 //! The top call over files in memory.
 
 use mp_io::memory::{MemFolder, MemSink};
+use mp_run::status::Status;
 use mp_run::top::top_plain;
 use std::alloc::{AllocError, Global};
 use std::test::Fail;
@@ -77,6 +78,29 @@ fn refuses_with_a_cause(rt: HostRuntime) -> Result<(), Fail> {
         let words = words(alloc, line)?;
         let status = top_plain(alloc, &words, &mut folder, &mut out);
         assert_eq!(rt; status.code(), code, "at {line:?}");
+        assert!(rt; out.bytes().is_empty());
+    }
+    Ok(())
+}
+
+#[test]
+fn names_the_file_that_fails(rt: HostRuntime) -> Result<(), Fail> {
+    let alloc = rt.alloc();
+    // The words, the calls that fail, and the number of the file.
+    let cases = [
+        ("serial T P S", &[1][..], 1),
+        ("serial T P S", &[2][..], 2),
+        ("serial T P X", &[][..], 3),
+        ("pages P 4", &[1][..], 1),
+    ];
+    for (line, fail, wanted) in cases {
+        let mut folder = folder(alloc, "", SCRIPT, fail)?;
+        let mut out = MemSink::make(alloc, Vec::new(alloc));
+        let words = words(alloc, line)?;
+        match top_plain(alloc, &words, &mut folder, &mut out) {
+            Status::ReadFault(file) => assert_eq!(rt; file, wanted, "at {line:?}"),
+            _ => assert!(rt; false, "at {line:?}"),
+        }
         assert!(rt; out.bytes().is_empty());
     }
     Ok(())

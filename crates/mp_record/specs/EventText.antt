@@ -1,5 +1,5 @@
 -- How the run text writes an event.
-use Rattle.std.specs.Prelude.{ℕ, ◌==◌, List, ◌++◌, take, codes, Option, Some, None, if◌then◌else◌}
+use Rattle.std.specs.Prelude.{ℕ, List, ◌++◌, take, codes, Option, Some, None}
 use Rattle.std.specs.List.{flat_map}
 use Rattle.mp_words.specs.declared.trying.TryEnd.{TryEnd}
 use Rattle.mp_words.specs.declared.trying.TryEnd.TheVariants.{Sent, Listed, Failed}
@@ -10,18 +10,8 @@ use Rattle.mp_record.specs.declared.event.Event.TheVariants.{Sec, At, Try, Fin}
 use Rattle.mp_record.specs.declared.event.Said.{Said}
 use Rattle.mp_record.specs.declared.event.Said.TheVariants.{Submit, Finish, Requeue, Changed, Refused, NotArmed, NoPath, Page, Added, Already, NoSlot, OrderFull, Marked, Idle, Freed, AgainSection, AgainDepth, Policy}
 use Rattle.mp_record.specs.Words.{one_number, two_numbers, three_numbers, pair_word, list_word, grace_word}
-use Rattle.mp_words.specs.Names.{status_word, cstate_word}
+use Rattle.mp_words.specs.Names.{status_word, cstate_word, page_check_word}
 use Rattle.mp_record.specs.NoteText.{section_line}
-
--- the check of a log page that failed first, by its number from 1 to 6
-abbrev pub check_word : ℕ → List ℕ
-check_word kind =
-    if kind == 1 then codes "short-header"
-    else (if kind == 2 then codes "short-descriptor"
-    else (if kind == 3 then codes "group-zero"
-    else (if kind == 4 then codes "group-above"
-    else (if kind == 5 then codes "state-bad"
-    else codes "short-list"))))
 
 -- what a line says of itself
 abbrev pub said_word : Said → List ℕ
@@ -32,7 +22,7 @@ said_word (Changed slot version) = two_numbers (codes "changed") slot version
 said_word (Refused slot version cstate) = two_numbers (codes "refused") slot version ++ codes " " ++ cstate_word cstate
 said_word (NotArmed slot version) = two_numbers (codes "not-armed") slot version
 said_word (NoPath order) = one_number (codes "no-path") order
-said_word (Page kind offset) = codes "page " ++ one_number (check_word kind) offset
+said_word (Page kind offset) = codes "page " ++ one_number (page_check_word kind) offset
 said_word (Added slot version order) = three_numbers (codes "added") slot version order
 said_word (Already slot) = one_number (codes "already") slot
 said_word NoSlot = codes "no-slot"
@@ -56,6 +46,7 @@ back_word None = codes "done"
 back_word (Some Unset) = codes "back -"
 back_word (Some (Set entry)) = codes "back " ++ pair_word entry.slot entry.row.version
 
+-- the line of an event
 abbrev pub event_line : Event → List ℕ
 event_line (Sec note moved) = section_line note moved
 event_line (At line said) = one_number (codes "at") line ++ codes " " ++ said_word said ++ codes "\n"
@@ -63,5 +54,6 @@ event_line (Try req hop end) = two_numbers (codes "try") req hop ++ codes " " ++
 event_line (Fin req hop statuses count back) =
     two_numbers (codes "fin") req hop ++ codes " " ++ list_word status_word (take count statuses) ++ codes " " ++ back_word back ++ codes "\n"
 
+-- the lines of events
 abbrev pub events_text : List Event → List ℕ
 events_text events = flat_map event_line events

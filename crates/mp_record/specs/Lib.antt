@@ -1,3 +1,4 @@
+-- What a run leaves, and its text.
 pub mod NotesView
 pub mod RunView
 pub mod Words

@@ -19,6 +19,7 @@ use Rattle.mp_record.specs.RunText.{head_line, row_line, is_written, keep_line, 
 abbrev pub written_row : Topology → RowEntry → List ℕ
 written_row t e = if is_written e then row_line t e else []
 
+-- the lines of the versions of a row that are written
 abbrev pub written_rows : Topology → List RowEntry → List ℕ
 written_rows t entries = flat_map (written_row t) entries
 
@@ -26,6 +27,7 @@ written_rows t entries = flat_map (written_row t) entries
 abbrev pub noted_event : Bool → Event → List ℕ
 noted_event notes event = if notes || is_plain event then event_line event else []
 
+-- the lines of events, sections only with the notes
 abbrev pub noted_events : Bool → List Event → List ℕ
 noted_events notes events = flat_map (noted_event notes) events
 
@@ -33,7 +35,7 @@ noted_events notes events = flat_map (noted_event notes) events
 abbrev pub noted_keep : Bool → KeepEntry → List ℕ
 noted_keep notes entry = if notes || is_order entry then keep_line entry else []
 
--- a lane's block
+-- a lane's block, sections only with the notes
 abbrev pub noted_lane : Bool → Option ℕ → ℕ × NotesView → List ℕ
 noted_lane notes keeper lane = one_number (lane_word keeper lane.0) lane.0 ++ codes "\n" ++ noted_events notes lane.1.events
 
@@ -45,7 +47,7 @@ tries_line t rows id node tries = request_line t rows (record { req = id; node =
 abbrev pub asked_line : Topology → List (List RowEntry) → RequestView → List ℕ
 asked_line t rows request = request_line t rows (asked_of request)
 
--- the whole text
+-- the whole text, with the notes or without
 abbrev pub noted_text : Bool → Topology → Run → List ℕ
 noted_text notes t run =
     codes "anamp 1\n" ++ head_line t ++ flat_map (written_rows t) run.rows ++ flat_map (noted_keep notes) run.keeping

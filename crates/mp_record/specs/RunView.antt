@@ -9,8 +9,10 @@ use Rattle.mp_record.specs.declared.event.Event.TheVariants.{Sec, At, Try, Fin}
 use Rattle.mp_record.specs.declared.run.Run.{Run}
 use Rattle.mp_record.specs.NotesView.{NotesView}
 
--- What a run leaves: the keeper's lane, the rows of each slot, what the keeper made, the events of each lane and of the drain, and the requests.
+-- What a run leaves: the namespace, the keeper's lane, the rows of each slot, what the keeper made, the events of each
+-- lane and of the drain, and the requests.
 pub record RunView : Type 0 where
+  pub nsid : ℕ
   pub keeper : Option ℕ
   pub rows : List (List RowEntry)
   pub keeping : List KeepEntry
@@ -25,6 +27,7 @@ events_of notes = notes.events
 -- what a run leaves
 abbrev pub view_of : Run → RunView
 view_of run = record {
+  nsid = run.nsid;
   keeper = run.keeper;
   rows = run.rows;
   keeping = run.keeping;

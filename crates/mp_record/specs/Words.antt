@@ -12,13 +12,15 @@ use Rattle.mp_words.specs.Row.{is_given}
 use Rattle.mp_topology.specs.Names.{name_of}
 use Rattle.mp_topology.specs.declared.topology.Topology.{Topology}
 
--- a word with one number, with two, and with three
+-- a word and a number
 abbrev pub one_number : List ℕ → ℕ → List ℕ
 one_number word a = word ++ codes " " ++ decimal a
 
+-- a word and two numbers
 abbrev pub two_numbers : List ℕ → ℕ → ℕ → List ℕ
 two_numbers word a b = word ++ codes " " ++ decimal a ++ codes " " ++ decimal b
 
+-- a word and three numbers
 abbrev pub three_numbers : List ℕ → ℕ → ℕ → ℕ → List ℕ
 three_numbers word a b c = word ++ codes " " ++ decimal a ++ codes " " ++ decimal b ++ codes " " ++ decimal c
 
@@ -48,6 +50,7 @@ or_dash (x ∷ xs) text = text
 abbrev pub list_word : {X : Type 0} → (X → List ℕ) → List X → List ℕ
 list_word word xs = or_dash xs (joined word xs)
 
+-- the letter of a grace period
 abbrev pub grace_word : Grace → List ℕ
 grace_word grace.A = codes "a"
 grace_word grace.B = codes "b"

@@ -1,28 +1,14 @@
 //! The text of an event.
 
 ghost use Rattle.std.specs.Prelude.{◌≡◌, ◌≤◌, ◌++◌, OnOk, string_bytes, length, take};
-ghost use Rattle.mp_record.specs.EventText.{check_word, said_word, end_word, back_word, event_line};
+ghost use Rattle.mp_record.specs.EventText.{said_word, end_word, back_word, event_line};
 
 use crate::event::{Event, Said};
 use crate::note_text::put_section;
 use crate::words::{grace_name, put_one, put_pair, put_statuses, put_three, put_two};
-use mp_words::names::cstate_name;
+use mp_words::names::{cstate_name, page_check_name};
 use mp_words::trying::{Back, TryEnd};
 use std::alloc::AllocError;
-
-/// The check of a log page that failed first, by its number from 1 to 6.
-fn check_name(kind: u8) -> &'static str
-    ensures { result.now ≡ check_word kind }
-{
-    match kind {
-        1 => "short-header",
-        2 => "short-descriptor",
-        3 => "group-zero",
-        4 => "group-above",
-        5 => "state-bad",
-        _ => "short-list",
-    }
-}
 
 /// What a line says of itself.
 fn put_said(text: &mut String, said: Said) -> Result<(), AllocError>
@@ -42,7 +28,7 @@ fn put_said(text: &mut String, said: Said) -> Result<(), AllocError>
         Said::NoPath(order) => put_one(text, "no-path", order),
         Said::Page(kind, offset) => {
             text.push_str("page ")?;
-            put_one(text, check_name(kind), offset)
+            put_one(text, page_check_name(kind), offset)
         }
         Said::Added(slot, version, order) => put_three(text, "added", slot.get(), version, order),
         Said::Already(slot) => put_one(text, "already", slot.get()),

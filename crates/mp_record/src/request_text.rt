@@ -15,6 +15,7 @@ use mp_words::entry::RowEntry;
 use mp_words::numbered::Numbered;
 use mp_words::numbers::{Node, ReqId, Slot};
 use mp_words::request::Request;
+use mp_words::status::put_status;
 use mp_words::trying::{Outcome, Try, TryEnd};
 use sqlite_items::Items;
 use std::alloc::AllocError;
@@ -100,7 +101,10 @@ fn put_outcome(text: &mut String, outcome: Outcome) -> Result<(), AllocError>
     ensures { OnOk result (string_bytes text.new ≡ string_bytes text.old ++ outcome_word outcome) }
 {
     match outcome {
-        Outcome::Done(status) => write!(text, "done {status:04X}"),
+        Outcome::Done(status) => {
+            text.push_str("done ")?;
+            put_status(text, status)
+        }
         Outcome::Failed => text.push_str("failed"),
         Outcome::Waiting => text.push_str("listed"),
         Outcome::Sent => text.push_str("sent"),

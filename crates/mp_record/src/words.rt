@@ -3,7 +3,7 @@
 ghost use Rattle.std.specs.Prelude.{◌≡◌, ◌++◌, OnOk, codes, string_bytes};
 ghost use Rattle.std.specs.Fmt.{decimal};
 ghost use Rattle.mp_record.specs.Words.{one_number, two_numbers, three_numbers, pair_word, comma, dash, letter, grace_word, flags_word, maker_word, path_word, list_word};
-ghost use Rattle.mp_words.specs.Names.{status_word};
+ghost use Rattle.mp_words.specs.Status.{status_word};
 
 use mp_topology::names::controller_name;
 use mp_topology::topology::Topology;
@@ -12,6 +12,7 @@ use mp_words::names::{cstate_name, put_state};
 use mp_words::numbers::{Ctrl, Slot};
 use mp_words::op::Maker;
 use mp_words::row::{CState, Policy, Row};
+use mp_words::status::put_status;
 use std::alloc::AllocError;
 
 /// A word and a number.
@@ -159,9 +160,10 @@ pub(crate) fn put_statuses(text: &mut String, statuses: &[u16]) -> Result<(), Al
     let Some((first, rest)) = statuses.split_first() else {
         return text.push_str("-");
     };
-    write!(text, "{first:04X}")?;
+    put_status(text, *first)?;
     for status in rest {
-        write!(text, ",{status:04X}")?;
+        text.push_str(",")?;
+        put_status(text, *status)?;
     }
     Ok(())
 }

@@ -9,10 +9,10 @@ use Rattle.mp_words.specs.declared.flight.Flight.{Flight}
 use Rattle.mp_words.specs.declared.trying.Back.{Back}
 use Rattle.mp_words.specs.declared.trying.Back.TheVariants as back
 use Rattle.mp_words.specs.Request.{Asked, Tried, attempts_of, map_last}
-use Rattle.mp_run.specs.declared.class.Class.{Class}
-use Rattle.mp_run.specs.declared.class.Class.TheVariants.{Complete, Failover, Retry}
+use Rattle.mp_status.specs.declared.class.Class.{Class}
+use Rattle.mp_status.specs.declared.class.Class.TheVariants.{Complete, Failover, Retry}
 use Rattle.mp_words.specs.declared.answers.Answer.{Answer}
-use Rattle.mp_run.specs.Disposition.{disposition_of}
+use Rattle.mp_status.specs.Disposition.{disposition_of}
 use Rattle.mp_run.specs.Answers.{ends_hop, hop_statuses, class_of_hop, through_first}
 use Rattle.mp_words.specs.Answers.{is_of, status_in, answer_for}
 use Rattle.mp_run.specs.PlainState.{State, request_of, with_tries}

@@ -26,7 +26,7 @@ pub record Stands (index : List ℕ) (place req : ℕ) (requests : List Asked) :
   pub changed : (tries : List Tried) → set requests behind (record (asked_at req requests) { tries = tries }) ≡ with_tries req tries requests
 
 -- no request from a place on has a number of an earlier place
-none_later : (index : List ℕ) (place req : ℕ) (requests : List Asked) → AreIndexed index place requests → slice_index index req < place → has_req req requests ≡ false
+pub none_later : (index : List ℕ) (place req : ℕ) (requests : List Asked) → AreIndexed index place requests → slice_index index req < place → has_req req requests ≡ false
 none_later index place req [] indexed before = refl
 none_later index place req (a ∷ requests) indexed before =
     elim (cases_Bool (a.req == req)) [

@@ -1,5 +1,6 @@
 pub mod ByNumber
 pub mod Indexed
+pub mod NoteLists
 pub mod EndTry
 pub mod Standing
 pub mod Steps
@@ -12,6 +13,7 @@ pub mod Ends
 pub mod Adds
 pub mod Few
 pub mod FinishLines
+pub mod SubmitLines
 pub mod TurnLists
 pub mod OpeningSlots
 pub mod OnTurns
@@ -22,8 +24,11 @@ pub mod WholeRun
 pub mod Keepers
 pub mod Coming
 pub mod LastRounds
+pub mod Paid
+pub mod PaidRun
 pub mod Quiet
 pub mod Told
 pub mod Outcomes
+pub mod Asking
 pub mod TopLaws
 pub mod Accepting

@@ -1,4 +1,5 @@
 -- A try keeps the state sound.
+use Rattle.mp_words.specs.declared.note.Note.{Note}
 use Rattle.mp_words.specs.declared.trying.Outcome.{Outcome}
 use Rattle.std.proofs.Common.{◌≡◌, ℕ, ◌<◌, true, false, ◌==◌, List, [], ◌∷◌, ◌++◌, inl, inr, map, get_or, set, Option, Some, None, refl, sym, ap, ◌∙◌, append_assoc, length}
 use Rattle.std.proofs.lemmas.Bool.{cases_Bool, eqb-true}
@@ -64,18 +65,18 @@ aloft_by s req before t others was unsent k r e =
       | inr other ↦ k.aloft r other e
     ]
 
-sound_failed : (s : State) (req : ℕ) (others : List ℕ) (before : List Tried) (t : Tried) → before ≡ (asked_at req s.requests).tries → outcome_of (Some t) ≡ outcome.Failed → IsSound s (req ∷ others)
-    → IsSound (record s { requests = with_tries req (before ++ t ∷ []) s.requests }) others
-sound_failed s req others before t was is sound =
+sound_failed : (s : State) (req : ℕ) (others : List ℕ) (before : List Tried) (t : Tried) (notes : List (ℕ × Note)) → before ≡ (asked_at req s.requests).tries → outcome_of (Some t) ≡ outcome.Failed → IsSound s (req ∷ others)
+    → IsSound (record s { requests = with_tries req (before ++ t ∷ []) s.requests; notes = notes }) others
+sound_failed s req others before t notes was is sound =
     let k = kept_by s req (before ++ t ∷ []) others sound in
     record { small = k.small; sent = k.sent; aloft = aloft_by s req before t others was (λ e. failed is e) k; home = sound.home; once = sound.once; alone = sound.alone; waits = k.waits; queued = k.queued }
   where
     failed : {o : Outcome} → o ≡ outcome.Failed → o ≡ outcome.Sent → ⊥
     failed p q = absurd cc
 
-sound_listed : (s : State) (req : ℕ) (others : List ℕ) (before : List Tried) (t : Tried) → before ≡ (asked_at req s.requests).tries → outcome_of (Some t) ≡ outcome.Waiting → IsSound s (req ∷ others)
-    → IsSound (record s { waiting = s.waiting ++ req ∷ []; requests = with_tries req (before ++ t ∷ []) s.requests }) others
-sound_listed s req others before t was is sound =
+sound_listed : (s : State) (req : ℕ) (others : List ℕ) (before : List Tried) (t : Tried) (notes : List (ℕ × Note)) → before ≡ (asked_at req s.requests).tries → outcome_of (Some t) ≡ outcome.Waiting → IsSound s (req ∷ others)
+    → IsSound (record s { waiting = s.waiting ++ req ∷ []; requests = with_tries req (before ++ t ∷ []) s.requests; notes = notes }) others
+sound_listed s req others before t notes was is sound =
     let tries : List Tried = before ++ t ∷ [] in
     let k = kept_by s req tries others sound in
     let all : (s.waiting ++ req ∷ []) ++ others ≡ s.waiting ++ req ∷ others = append_assoc s.waiting (req ∷ []) others in
@@ -99,9 +100,9 @@ sound_listed s req others before t was is sound =
     waiting : {o : Outcome} → o ≡ outcome.Waiting → o ≡ outcome.Sent → ⊥
     waiting p q = absurd cc
 
-sound_sent : (s : State) (at req : ℕ) (others : List ℕ) (before : List Tried) (t : Tried) (f : Flight) (lasts : List (Option ℕ)) → before ≡ (asked_at req s.requests).tries → outcome_of (Some t) ≡ outcome.Sent → f.req ≡ req → f.lane ≡ at → at < length s.flights → IsSound s (req ∷ others)
-    → IsSound (record s { flights = set s.flights at (get_or s.flights at [] ++ f ∷ []); lasts = lasts; requests = with_tries req (before ++ t ∷ []) s.requests }) others
-sound_sent s at req others before t f lasts was is number lane_is lt sound =
+sound_sent : (s : State) (at req : ℕ) (others : List ℕ) (before : List Tried) (t : Tried) (f : Flight) (lasts : List (Option ℕ)) (notes : List (ℕ × Note)) → before ≡ (asked_at req s.requests).tries → outcome_of (Some t) ≡ outcome.Sent → f.req ≡ req → f.lane ≡ at → at < length s.flights → IsSound s (req ∷ others)
+    → IsSound (record s { flights = set s.flights at (get_or s.flights at [] ++ f ∷ []); lasts = lasts; requests = with_tries req (before ++ t ∷ []) s.requests; notes = notes }) others
+sound_sent s at req others before t f lasts notes was is number lane_is lt sound =
     let tries : List Tried = before ++ t ∷ [] in
     let k = kept_by s req tries others sound in
     record {
@@ -139,13 +140,13 @@ sound_sent s at req others before t f lasts was is number lane_is lt sound =
 tried_sound : (lane : ℕ) (s : State) (others : List ℕ) (end : TryEnd) (a : Asked) (req : ℕ) → lane < length s.flights → a.req ≡ req → a ≡ asked_at req s.requests → IsSound s (req ∷ others) → IsSound (tried lane s a end).state others
 tried_sound lane s others Failed a req lt number is sound =
     let was : a.tries ≡ (asked_at a.req s.requests).tries = ap (λ (b : Asked). b.tries) (is ∙ ap (λ n. asked_at n s.requests) (sym number)) in
-    sound_failed s a.req others a.tries (record { end = Failed; statuses = []; back = None }) was refl (rw number sound)
+    sound_failed s a.req others a.tries (record { end = Failed; statuses = []; back = None }) _ was refl (rw number sound)
 tried_sound lane s others Listed a req lt number is sound =
     let was : a.tries ≡ (asked_at a.req s.requests).tries = ap (λ (b : Asked). b.tries) (is ∙ ap (λ n. asked_at n s.requests) (sym number)) in
-    sound_listed s a.req others a.tries (record { end = Listed; statuses = []; back = None }) was refl (rw number sound)
+    sound_listed s a.req others a.tries (record { end = Listed; statuses = []; back = None }) _ was refl (rw number sound)
 tried_sound lane s others (Sent slot version) a req lt number is sound =
     let was : a.tries ≡ (asked_at a.req s.requests).tries = ap (λ (b : Asked). b.tries) (is ∙ ap (λ n. asked_at n s.requests) (sym number)) in
-    sound_sent s lane a.req others a.tries (record { end = Sent slot version; statuses = []; back = None }) (record { slot = slot; version = version; req = a.req; lane = lane }) _ was refl refl refl lt (rw number sound)
+    sound_sent s lane a.req others a.tries (record { end = Sent slot version; statuses = []; back = None }) (record { slot = slot; version = version; req = a.req; lane = lane }) _ _ was refl refl refl lt (rw number sound)
 
 pub sound_submit : (near : Near) (lane req : ℕ) (s : State) (others : List ℕ) → lane < length s.flights → IsSound s (req ∷ others) → IsSound (submitted near lane s req).state others
 sound_submit near lane req s others lt sound =

@@ -17,7 +17,7 @@ use Rattle.mp_script.specs.declared.script.World.{World}
 use Rattle.mp_page.specs.Page.{page_in}
 use Rattle.mp_run.specs.PlainState.{State}
 use Rattle.mp_run.specs.PlainCall.{Inputs}
-use Rattle.mp_run.specs.PlainRun.{Taken, taken, state_after, events_in, run_of, plain_run, by_number, run_over}
+use Rattle.mp_run.specs.PlainRun.{Taken, taken, state_after, events_in, run_of, plain_run, by_number, run_over, state_left, notes_over}
 use Rattle.mp_run.specs.Opening.{opening, opening_rows, opening_row, opening_entry}
 use Rattle.mp_run.specs.Stepped.{Stepped}
 use Rattle.mp_run.specs.Drain.{drain}
@@ -85,6 +85,7 @@ lanes_are ts n lanes len noted =
 pub run_is : (i : Inputs) (plans : List LanePlan) (now after : State) (lanes : List (List Event)) (drained : List Event) (view : RunView)
     → IsOn i (turns_of plans) [] (opening i) now (replicate (length plans) []) lanes → length lanes ≡ length plans → Does (drain i now) after [] drained
     → view ≡ record {
+      nsid = i.topology.nsid;
       keeper = position (λ plan. plan.keeper) plans;
       rows = map alone (map opening_entry (enumerate_from 0 (opening_rows i)));
       keeping = first_entry (opening i).order ∷ [];
@@ -109,6 +110,7 @@ run_is i plans now after lanes drained view on len does is =
         → flat_map (λ (x : Taken). x.step.rows) ts ≡ [] → flat_map (λ (x : Taken). x.step.orders) ts ≡ [] → last.rows ≡ [] → last.orders ≡ [] → last.events ≡ drained → last.state ≡ after
         → map (events_in ts) (range_with_len 0 (length plans)) ≡ lanes
         → run_of i plans ts last ≡ record {
+          nsid = i.topology.nsid;
           keeper = position (λ plan. plan.keeper) plans;
           rows = map alone (map opening_entry (enumerate_from 0 (opening_rows i)));
           keeping = first_entry (opening i).order ∷ [];
@@ -123,6 +125,11 @@ pub run_over_is : (world : World) (script : Script) → script.answers ≡ [] �
 unfolding run_over
 run_over_is world script none =
     ap (λ (answers : List Answer). plain_run (record { topology = world.topology; pages = map (page_in world.topology.anagrpmax) world.pages; answers = answers }) script.lanes) none
+
+pub notes_over_is : (world : World) (script : Script) → script.answers ≡ [] → notes_over world script ≡ (state_left (inputs_of world) script.lanes).notes
+unfolding notes_over
+notes_over_is world script none =
+    ap (λ (answers : List Answer). (state_left (record { topology = world.topology; pages = map (page_in world.topology.anagrpmax) world.pages; answers = answers }) script.lanes).notes) none
 
 -- an answer that is one thing is another
 pub if_ok : {T E : Type 0} {P Q : T → Type 0} (r : Result T E) → ((v : T) → P v → Q v) → IfOk r P → IfOk r Q

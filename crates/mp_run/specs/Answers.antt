@@ -1,10 +1,10 @@
 -- The statuses that a script gives to the attempts of a request.
 use Rattle.std.specs.Prelude.{ℕ, ◌-◌, Bool, not, List, [], ◌∷◌, map, length, unwrap_or, None, if◌then◌else◌}
 use Rattle.std.specs.List.{enumerate_from, range_with_len, last_or}
-use Rattle.mp_run.specs.declared.class.Class.{Class}
+use Rattle.mp_status.specs.declared.class.Class.{Class}
 use Rattle.mp_words.specs.declared.answers.Answer.{Answer}
 use Rattle.mp_words.specs.Answers.{answer_for}
-use Rattle.mp_run.specs.Disposition.{disposition_of, is_retry}
+use Rattle.mp_status.specs.Disposition.{disposition_of, is_retry}
 
 -- the items through the first that passes the test
 abbrev pub through_first : {X : Type 0} → (X → Bool) → List X → List X

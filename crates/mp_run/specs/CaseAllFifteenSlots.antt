@@ -1,31 +1,31 @@
 -- A worked case: all fifteen slots.
-use Rattle.std.specs.Prelude.{ℕ, true, false, List, [], ◌∷◌, ◌++◌, codes, Some, None, replicate, take}
+use Rattle.std.specs.Prelude.{ℕ, List, [], ◌∷◌, ◌++◌, codes, map, None}
+use Rattle.std.specs.List.{range_with_len}
 use Rattle.mp_words.specs.declared.row.CState.TheVariants as cstate
 use Rattle.mp_words.specs.declared.row.Policy.TheVariants as policy
 use Rattle.mp_script.specs.declared.script.Line.TheVariants as line
-use Rattle.mp_run.specs.PlainCall.{Inputs}
-use Rattle.mp_run.specs.CaseParts.{eight}
 use Rattle.mp_script.specs.declared.script.LanePlan.{LanePlan}
+use Rattle.mp_topology.specs.declared.topology.Controller.{Controller}
+use Rattle.mp_run.specs.PlainCall.{Inputs}
+use Rattle.mp_run.specs.CaseParts.{inputs_with, topology, one_node, without_ana, keeper_lane}
 
+-- controllers without ANA with these letters as names, all live on one node
+abbrev pub lettered : List ℕ → List Controller
+lettered letters = map (λ letter. without_ana (letter ∷ []) 0 cstate.Live) letters
+
+-- the inputs of the case
 abbrev pub inputs : Inputs
-inputs = record {
-  topology = record {
-    nsid = 1;
-    anagrpmax = 4;
-    group = 1;
-    policy = policy.QueueDepth;
-    near = record { nodes = 1; distance = take 8 (eight (10 ∷ []) ∷ replicate 8 (eight [])); home = take 64 ((Some 0) ∷ (Some 0) ∷ (Some 0) ∷ (Some 0) ∷ (Some 0) ∷ (Some 0) ∷ (Some 0) ∷ (Some 0) ∷ (Some 0) ∷ (Some 0) ∷ (Some 0) ∷ (Some 0) ∷ (Some 0) ∷ (Some 0) ∷ (Some 0) ∷ (Some 0) ∷ replicate 64 None) };
-    controllers = record { name = codes "a"; node = (Some 0); ana = false; state = cstate.Live; page = None } ∷ record { name = codes "b"; node = (Some 0); ana = false; state = cstate.Live; page = None } ∷ record { name = codes "c"; node = (Some 0); ana = false; state = cstate.Live; page = None } ∷ record { name = codes "d"; node = (Some 0); ana = false; state = cstate.Live; page = None } ∷ record { name = codes "e"; node = (Some 0); ana = false; state = cstate.Live; page = None } ∷ record { name = codes "f"; node = (Some 0); ana = false; state = cstate.Live; page = None } ∷ record { name = codes "g"; node = (Some 0); ana = false; state = cstate.Live; page = None } ∷ record { name = codes "h"; node = (Some 0); ana = false; state = cstate.Live; page = None } ∷ record { name = codes "i"; node = (Some 0); ana = false; state = cstate.Live; page = None } ∷ record { name = codes "j"; node = (Some 0); ana = false; state = cstate.Live; page = None } ∷ record { name = codes "k"; node = (Some 0); ana = false; state = cstate.Live; page = None } ∷ record { name = codes "l"; node = (Some 0); ana = false; state = cstate.Live; page = None } ∷ record { name = codes "m"; node = (Some 0); ana = false; state = cstate.Live; page = None } ∷ record { name = codes "n"; node = (Some 0); ana = false; state = cstate.Live; page = None } ∷ record { name = codes "o"; node = (Some 0); ana = false; state = cstate.Live; page = None } ∷ record { name = codes "p"; node = (Some 0); ana = false; state = cstate.Live; page = None } ∷ [];
-    opening = 0 ∷ 1 ∷ 2 ∷ 3 ∷ 4 ∷ 5 ∷ 6 ∷ 7 ∷ [];
-  };
-  pages = [];
-  answers = [];
-}
+inputs =
+    inputs_with (topology policy.QueueDepth one_node (lettered (codes "abcdefghijklmnop")) (range_with_len 0 8)) [] []
 
+-- the lanes of its script
 abbrev pub lanes : List LanePlan
 lanes =
-    record { keeper = true; lines = record { number = 2; line = line.Add 8 None } ∷ record { number = 3; line = line.Submit 0 0 } ∷ record { number = 4; line = line.Submit 1 0 } ∷ record { number = 5; line = line.Submit 2 0 } ∷ record { number = 6; line = line.Submit 3 0 } ∷ record { number = 7; line = line.Submit 4 0 } ∷ record { number = 8; line = line.Submit 5 0 } ∷ record { number = 9; line = line.Submit 6 0 } ∷ record { number = 10; line = line.Remove 0 } ∷ record { number = 11; line = line.Remove 1 } ∷ record { number = 12; line = line.Remove 2 } ∷ record { number = 13; line = line.Remove 3 } ∷ record { number = 14; line = line.Remove 4 } ∷ record { number = 15; line = line.Remove 5 } ∷ record { number = 16; line = line.Remove 6 } ∷ record { number = 17; line = line.Reap } ∷ record { number = 18; line = line.Add 8 None } ∷ record { number = 19; line = line.Add 9 None } ∷ record { number = 20; line = line.Add 10 None } ∷ record { number = 21; line = line.Add 11 None } ∷ record { number = 22; line = line.Add 12 None } ∷ record { number = 23; line = line.Add 13 None } ∷ record { number = 24; line = line.Add 14 None } ∷ record { number = 25; line = line.Add 15 None } ∷ record { number = 26; line = line.Remove 7 } ∷ record { number = 27; line = line.Add 15 None } ∷ record { number = 28; line = line.Reap } ∷ record { number = 29; line = line.Add 15 None } ∷ record { number = 30; line = line.Add 15 None } ∷ [] }
-    ∷ []
+    keeper_lane 2 (line.Add 8 None ∷ line.Submit 0 0 ∷ line.Submit 1 0 ∷ line.Submit 2 0 ∷ line.Submit 3 0
+    ∷ line.Submit 4 0 ∷ line.Submit 5 0 ∷ line.Submit 6 0 ∷ line.Remove 0 ∷ line.Remove 1 ∷ line.Remove 2
+    ∷ line.Remove 3 ∷ line.Remove 4 ∷ line.Remove 5 ∷ line.Remove 6 ∷ line.Reap ∷ line.Add 8 None ∷ line.Add 9 None
+    ∷ line.Add 10 None ∷ line.Add 11 None ∷ line.Add 12 None ∷ line.Add 13 None ∷ line.Add 14 None
+    ∷ line.Add 15 None ∷ line.Remove 7 ∷ line.Add 15 None ∷ line.Reap ∷ line.Add 15 None ∷ line.Add 15 None ∷ []) ∷ []
 
 -- the text of the run
 abbrev pub text : List ℕ

@@ -1,32 +1,18 @@
 -- A worked case: change arms and timer expires.
-use Rattle.std.specs.Prelude.{ℕ, true, false, List, [], ◌∷◌, ◌++◌, codes, Some, None, Ok, Err, replicate, take}
-use Rattle.mp_words.specs.declared.row.CState.TheVariants as cstate
+use Rattle.std.specs.Prelude.{ℕ, List, [], ◌∷◌, ◌++◌, codes}
 use Rattle.mp_words.specs.declared.row.Policy.TheVariants as policy
-use Rattle.mp_page.specs.declared.page.PageError.TheVariants as refusal
 use Rattle.mp_script.specs.declared.script.Line.TheVariants as line
-use Rattle.mp_run.specs.PlainCall.{Inputs}
-use Rattle.mp_run.specs.CaseParts.{eight}
 use Rattle.mp_script.specs.declared.script.LanePlan.{LanePlan}
+use Rattle.mp_run.specs.PlainCall.{Inputs}
+use Rattle.mp_run.specs.CaseParts.{on_one_node, lane}
 
+-- the inputs of the case
 abbrev pub inputs : Inputs
-inputs = record {
-  topology = record {
-    nsid = 1;
-    anagrpmax = 4;
-    group = 1;
-    policy = policy.Numa;
-    near = record { nodes = 1; distance = take 8 (eight (10 ∷ []) ∷ replicate 8 (eight [])); home = take 64 ((Some 0) ∷ (Some 0) ∷ (Some 0) ∷ replicate 64 None) };
-    controllers = record { name = codes "a"; node = (Some 0); ana = true; state = cstate.Live; page = (Some 0) } ∷ record { name = codes "b"; node = (Some 0); ana = true; state = cstate.Live; page = (Some 0) } ∷ record { name = codes "c"; node = (Some 0); ana = true; state = cstate.Live; page = (Some 0) } ∷ [];
-    opening = 0 ∷ 1 ∷ [];
-  };
-  pages = Ok (record { changes = 5; groups = record { id = 1; changes = 5; state = 1; nsids = 1 ∷ [] } ∷ [] }) ∷ Ok (record { changes = 5; groups = record { id = 1; changes = 5; state = 2; nsids = 1 ∷ [] } ∷ [] }) ∷ Ok (record { changes = 5; groups = record { id = 1; changes = 5; state = 3; nsids = 1 ∷ [] } ∷ [] }) ∷ Ok (record { changes = 5; groups = record { id = 1; changes = 5; state = 15; nsids = 1 ∷ [] } ∷ [] }) ∷ Ok (record { changes = 5; groups = [] }) ∷ Err (refusal.ShortList 16) ∷ [];
-  answers = [];
-}
+inputs = on_one_node policy.Numa 0 (0 ∷ 1 ∷ []) []
 
+-- the lanes of its script
 abbrev pub lanes : List LanePlan
-lanes =
-    record { keeper = false; lines = record { number = 2; line = line.Log 0 3 } ∷ record { number = 3; line = line.Anatt 0 } ∷ record { number = 4; line = line.Anatt 0 } ∷ record { number = 5; line = line.Log 0 5 } ∷ [] }
-    ∷ []
+lanes = lane 2 (line.Log 0 3 ∷ line.Anatt 0 ∷ line.Anatt 0 ∷ line.Log 0 5 ∷ []) ∷ []
 
 -- the text of the run
 abbrev pub text : List ℕ

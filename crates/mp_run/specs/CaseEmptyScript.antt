@@ -1,29 +1,18 @@
 -- A worked case: empty script.
-use Rattle.std.specs.Prelude.{ℕ, false, List, [], ◌∷◌, ◌++◌, codes, Some, None, replicate, take}
+use Rattle.std.specs.Prelude.{ℕ, List, [], ◌++◌, codes}
 use Rattle.mp_words.specs.declared.row.CState.TheVariants as cstate
 use Rattle.mp_words.specs.declared.row.Policy.TheVariants as policy
-use Rattle.mp_run.specs.PlainCall.{Inputs}
-use Rattle.mp_run.specs.CaseParts.{eight}
 use Rattle.mp_script.specs.declared.script.LanePlan.{LanePlan}
+use Rattle.mp_run.specs.PlainCall.{Inputs}
+use Rattle.mp_run.specs.CaseParts.{near_and_far}
 
+-- the inputs of the case
 abbrev pub inputs : Inputs
-inputs = record {
-  topology = record {
-    nsid = 1;
-    anagrpmax = 4;
-    group = 1;
-    policy = policy.Numa;
-    near = record { nodes = 2; distance = take 8 (eight (10 ∷ 20 ∷ []) ∷ eight (20 ∷ 10 ∷ []) ∷ replicate 8 (eight [])); home = take 64 ((Some 0) ∷ (Some 1) ∷ replicate 64 None) };
-    controllers = record { name = codes "a"; node = (Some 0); ana = false; state = cstate.Live; page = None } ∷ record { name = codes "b"; node = (Some 1); ana = false; state = cstate.Live; page = None } ∷ [];
-    opening = 0 ∷ 1 ∷ [];
-  };
-  pages = [];
-  answers = [];
-}
+inputs = near_and_far policy.Numa cstate.Live
 
+-- the lanes of its script
 abbrev pub lanes : List LanePlan
-lanes =
-    []
+lanes = []
 
 -- the text of the run
 abbrev pub text : List ℕ

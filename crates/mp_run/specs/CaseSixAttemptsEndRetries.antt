@@ -1,32 +1,21 @@
 -- A worked case: six attempts end retries.
-use Rattle.std.specs.Prelude.{ℕ, true, false, List, [], ◌∷◌, ◌++◌, codes, Some, None, Ok, Err, replicate, take}
-use Rattle.mp_words.specs.declared.row.CState.TheVariants as cstate
+use Rattle.std.specs.Prelude.{ℕ, List, [], ◌∷◌, ◌++◌, codes}
 use Rattle.mp_words.specs.declared.row.Policy.TheVariants as policy
-use Rattle.mp_page.specs.declared.page.PageError.TheVariants as refusal
 use Rattle.mp_script.specs.declared.script.Line.TheVariants as line
-use Rattle.mp_run.specs.PlainCall.{Inputs}
-use Rattle.mp_run.specs.CaseParts.{eight}
 use Rattle.mp_script.specs.declared.script.LanePlan.{LanePlan}
+use Rattle.mp_run.specs.PlainCall.{Inputs}
+use Rattle.mp_run.specs.CaseParts.{on_one_node, answer, lane}
 
+-- the inputs of the case
 abbrev pub inputs : Inputs
-inputs = record {
-  topology = record {
-    nsid = 1;
-    anagrpmax = 4;
-    group = 1;
-    policy = policy.Numa;
-    near = record { nodes = 1; distance = take 8 (eight (10 ∷ []) ∷ replicate 8 (eight [])); home = take 64 ((Some 0) ∷ (Some 0) ∷ (Some 0) ∷ replicate 64 None) };
-    controllers = record { name = codes "a"; node = (Some 0); ana = true; state = cstate.Live; page = (Some 0) } ∷ record { name = codes "b"; node = (Some 0); ana = true; state = cstate.Live; page = (Some 0) } ∷ record { name = codes "c"; node = (Some 0); ana = true; state = cstate.Live; page = (Some 0) } ∷ [];
-    opening = 0 ∷ 1 ∷ [];
-  };
-  pages = Ok (record { changes = 5; groups = record { id = 1; changes = 5; state = 1; nsids = 1 ∷ [] } ∷ [] }) ∷ Ok (record { changes = 5; groups = record { id = 1; changes = 5; state = 2; nsids = 1 ∷ [] } ∷ [] }) ∷ Ok (record { changes = 5; groups = record { id = 1; changes = 5; state = 3; nsids = 1 ∷ [] } ∷ [] }) ∷ Ok (record { changes = 5; groups = record { id = 1; changes = 5; state = 15; nsids = 1 ∷ [] } ∷ [] }) ∷ Ok (record { changes = 5; groups = [] }) ∷ Err (refusal.ShortList 16) ∷ [];
-  answers = record { req = 0; attempt = 1; status = 6 } ∷ record { req = 0; attempt = 2; status = 6 } ∷ record { req = 0; attempt = 3; status = 6 } ∷ record { req = 0; attempt = 4; status = 6 } ∷ record { req = 0; attempt = 5; status = 6 } ∷ record { req = 0; attempt = 6; status = 6 } ∷ [];
-}
+inputs =
+    on_one_node policy.Numa 0 (0 ∷ 1 ∷ [])
+    (answer 0 1 0x0006 ∷ answer 0 2 0x0006 ∷ answer 0 3 0x0006
+    ∷ answer 0 4 0x0006 ∷ answer 0 5 0x0006 ∷ answer 0 6 0x0006 ∷ [])
 
+-- the lanes of its script
 abbrev pub lanes : List LanePlan
-lanes =
-    record { keeper = false; lines = record { number = 8; line = line.Submit 0 0 } ∷ record { number = 9; line = line.FinishAll } ∷ [] }
-    ∷ []
+lanes = lane 8 (line.Submit 0 0 ∷ line.FinishAll ∷ []) ∷ []
 
 -- the text of the run
 abbrev pub text : List ℕ

@@ -1,31 +1,34 @@
 -- A worked case: storage failover.
-use Rattle.std.specs.Prelude.{ℕ, true, false, List, [], ◌∷◌, ◌++◌, codes, Some, None, Ok, replicate, take}
-use Rattle.mp_words.specs.declared.row.CState.TheVariants as cstate
+use Rattle.std.specs.Prelude.{ℕ, List, [], ◌∷◌, ◌++◌, codes, Result}
 use Rattle.mp_words.specs.declared.row.Policy.TheVariants as policy
+use Rattle.mp_page.specs.declared.page.Page.{Page}
+use Rattle.mp_page.specs.declared.page.PageError.{PageError}
 use Rattle.mp_script.specs.declared.script.Line.TheVariants as line
-use Rattle.mp_run.specs.PlainCall.{Inputs}
-use Rattle.mp_run.specs.CaseParts.{eight}
 use Rattle.mp_script.specs.declared.script.LanePlan.{LanePlan}
+use Rattle.mp_topology.specs.declared.topology.Controller.{Controller}
+use Rattle.mp_run.specs.PlainCall.{Inputs}
+use Rattle.mp_run.specs.CaseParts.{inputs_with, topology, two_nodes, with_ana, page, group, lane}
 
+-- two sides of a storage, each with the other's state for namespace 2
+abbrev pub sides : List (Result Page PageError)
+sides = page (group 1 1 (1 ∷ []) ∷ group 2 2 (2 ∷ []) ∷ []) ∷ page (group 1 2 (1 ∷ []) ∷ group 2 1 (2 ∷ []) ∷ []) ∷ []
+
+-- its controllers, each with the page of its side
+abbrev pub controllers : List Controller
+controllers =
+    with_ana (codes "a") 0 0 ∷ with_ana (codes "b") 1 0 ∷ with_ana (codes "c") 0 1 ∷ with_ana (codes "d") 1 1 ∷ []
+
+-- the inputs of the case
 abbrev pub inputs : Inputs
-inputs = record {
-  topology = record {
-    nsid = 1;
-    anagrpmax = 4;
-    group = 1;
-    policy = policy.Numa;
-    near = record { nodes = 2; distance = take 8 (eight (10 ∷ 20 ∷ []) ∷ eight (20 ∷ 10 ∷ []) ∷ replicate 8 (eight [])); home = take 64 ((Some 0) ∷ (Some 1) ∷ (Some 0) ∷ (Some 1) ∷ replicate 64 None) };
-    controllers = record { name = codes "a"; node = (Some 0); ana = true; state = cstate.Live; page = (Some 0) } ∷ record { name = codes "b"; node = (Some 1); ana = true; state = cstate.Live; page = (Some 0) } ∷ record { name = codes "c"; node = (Some 0); ana = true; state = cstate.Live; page = (Some 1) } ∷ record { name = codes "d"; node = (Some 1); ana = true; state = cstate.Live; page = (Some 1) } ∷ [];
-    opening = 0 ∷ 1 ∷ 2 ∷ 3 ∷ [];
-  };
-  pages = Ok (record { changes = 5; groups = record { id = 1; changes = 5; state = 1; nsids = 1 ∷ [] } ∷ record { id = 2; changes = 5; state = 2; nsids = 2 ∷ [] } ∷ [] }) ∷ Ok (record { changes = 5; groups = record { id = 1; changes = 5; state = 2; nsids = 1 ∷ [] } ∷ record { id = 2; changes = 5; state = 1; nsids = 2 ∷ [] } ∷ [] }) ∷ [];
-  answers = [];
-}
+inputs = inputs_with (topology policy.Numa two_nodes controllers (0 ∷ 1 ∷ 2 ∷ 3 ∷ [])) sides []
 
+-- the lanes of its script
 abbrev pub lanes : List LanePlan
 lanes =
-    record { keeper = false; lines = record { number = 2; line = line.Submit 0 0 } ∷ record { number = 3; line = line.Submit 1 1 } ∷ record { number = 4; line = line.Submit 2 0 } ∷ record { number = 5; line = line.Submit 3 1 } ∷ record { number = 6; line = line.FinishAll } ∷ record { number = 7; line = line.Log 0 1 } ∷ record { number = 8; line = line.Log 1 1 } ∷ record { number = 9; line = line.Submit 4 0 } ∷ record { number = 10; line = line.Submit 5 1 } ∷ record { number = 11; line = line.Log 2 0 } ∷ record { number = 12; line = line.Log 3 0 } ∷ record { number = 13; line = line.Submit 6 0 } ∷ record { number = 14; line = line.Submit 7 1 } ∷ record { number = 15; line = line.Submit 8 0 } ∷ record { number = 16; line = line.Submit 9 1 } ∷ record { number = 17; line = line.FinishAll } ∷ record { number = 18; line = line.Submit 10 0 } ∷ record { number = 19; line = line.Submit 11 1 } ∷ [] }
-    ∷ []
+    lane 2 (line.Submit 0 0 ∷ line.Submit 1 1 ∷ line.Submit 2 0 ∷ line.Submit 3 1 ∷ line.FinishAll ∷ line.Log 0 1
+    ∷ line.Log 1 1 ∷ line.Submit 4 0 ∷ line.Submit 5 1 ∷ line.Log 2 0 ∷ line.Log 3 0 ∷ line.Submit 6 0
+    ∷ line.Submit 7 1 ∷ line.Submit 8 0 ∷ line.Submit 9 1 ∷ line.FinishAll ∷ line.Submit 10 0 ∷ line.Submit 11 1
+    ∷ []) ∷ []
 
 -- the text of the run
 abbrev pub text : List ℕ

@@ -11,7 +11,7 @@ use Rattle.mp_run.specs.PlainKeep.{reaped}
 use Rattle.mp_run.specs.PlainLine.{flights_of}
 use Rattle.mp_run.specs.Stepped.{Stepped, Place, says, joined, and_then, each}
 
--- the drain is lane 16, line 0
+-- the place of the drain: lane 16, line 0
 abbrev pub drain_place : Place
 drain_place = record { lane = 16; line = 0 }
 
@@ -53,7 +53,7 @@ rounds_from i (suc n) first =
 abbrev pub most_rounds : Inputs → State → ℕ
 most_rounds i s = length s.waiting + length i.answers
 
--- all rounds
+-- all rounds of the drain
 abbrev pub rounds : Inputs → State → Stepped
 rounds i s = rounds_from i (most_rounds i s) (round i s)
 

@@ -22,7 +22,8 @@ state_of e = record {
   waiting = e.waiting.items;
   removals = [];
   flips = 0;
-  requests = e.requests;
+  requests = e.requests.asked;
+  notes = e.requests.noted;
 }
 
 -- A state with a row for each slot, at most eight of them listed, and flights for each lane, under NUMA.

@@ -27,7 +27,10 @@ bound_in digits = option_and_then in_bound (number_of digits)
 
 -- the form of a word alone
 abbrev pub option_form : List ℕ → Option Form
-option_form word = if bytes_eq word (codes "--help") then Some help else (if bytes_eq word (codes "--version") then Some version else None)
+option_form word =
+    if bytes_eq word (codes "--help") then Some help
+    else (if bytes_eq word (codes "--version") then Some version
+    else None)
 
 -- the form of the text of pages under a bound, if there is one
 abbrev pub pages_form : List ℕ → Option ℕ → Option Form
@@ -38,5 +41,6 @@ pages_form p (Some max) = Some (pages p max)
 abbrev pub form_of : List (List ℕ) → Option Form
 form_of (word ∷ []) = option_form word
 form_of (form ∷ p ∷ max ∷ []) = if bytes_eq form (codes "pages") then pages_form p (bound_in max) else None
-form_of (form ∷ t ∷ p ∷ s ∷ []) = if bytes_eq form (codes "serial") then Some (serial (record { topology = t; boxes = p; script = s })) else None
+form_of (form ∷ t ∷ p ∷ s ∷ []) =
+    if bytes_eq form (codes "serial") then Some (serial (record { topology = t; boxes = p; script = s })) else None
 form_of _ = None

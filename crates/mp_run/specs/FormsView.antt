@@ -4,7 +4,7 @@ use Rattle.mp_run.specs.declared.forms.Form.{Form as HeldForm}
 use Rattle.mp_run.specs.declared.forms.Form.TheVariants as held
 use Rattle.mp_run.specs.Forms.{Names, Form, serial, pages, help, version}
 
--- the names, as bytes
+-- the names that the program holds, as bytes
 abbrev pub names_of : HeldNames → Names
 names_of n = record { topology = n.topology.now; boxes = n.boxes.now; script = n.script.now }
 

@@ -8,7 +8,7 @@ use Rattle.mp_words.specs.declared.entry.KeepEntry.TheVariants as keep
 use Rattle.mp_words.specs.declared.op.Maker.TheVariants as maker
 use Rattle.mp_words.specs.declared.order.Order.{Order}
 
--- one entry
+-- the history of one entry
 abbrev pub alone : RowEntry → List RowEntry
 alone entry = entry ∷ []
 

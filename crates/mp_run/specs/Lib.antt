@@ -1,4 +1,6 @@
-pub mod Disposition
+-- The plain run of a whole script, what the engine keeps against it, and what the top call answers. The files whose
+-- names begin with Plain, and Stepped, Turns, Drain, Units, Opening and Answers, define the whole script
+-- language and have no word of the engine.
 pub mod Answers
 pub mod PlainState
 pub mod Stepped
@@ -14,6 +16,8 @@ pub mod Drain
 pub mod PlainRun
 pub mod Units
 pub mod Numbers
+pub mod Notes
+pub mod RequestsView
 pub mod Indexed
 pub mod Flying
 pub mod Engine
@@ -32,6 +36,7 @@ pub mod Forms
 pub mod FormsView
 pub mod Help
 pub mod Outcome
+pub mod Outside
 pub mod TooLong
 pub mod Accepted
 pub mod CaseParts
@@ -53,3 +58,4 @@ pub mod CaseRoundRobinNonoptimizedWalk
 pub mod CaseRoundRobinNothingUsable
 pub mod CaseSixAttemptsEndRetries
 pub mod CaseStorageFailover
+pub mod CaseUnits

@@ -1,5 +1,5 @@
 -- The state with which a run begins.
-use Rattle.std.specs.Prelude.{ℕ, List, [], ◌++◌, map, take, length, replicate, slice_get, Option, Some, None, unwrap_or, Result, Ok, Err, if◌then◌else◌}
+use Rattle.std.specs.Prelude.{ℕ, List, [], ◌++◌, map, take, length, replicate, slice_get, Option, Some, None, Result, Ok, Err, if◌then◌else◌}
 use Rattle.std.specs.List.{range_with_len}
 use Rattle.mp_words.specs.declared.row.Row.{Row}
 use Rattle.mp_words.specs.declared.op.Op.TheVariants as op
@@ -20,9 +20,14 @@ abbrev pub page_or_empty : Result Page PageError → Page
 page_or_empty (Ok page) = page
 page_or_empty (Err error) = empty_page
 
+-- the page in a box, where an opening page is named, and else an empty one
+abbrev pub named_page : Inputs → Option ℕ → Page
+named_page i None = empty_page
+named_page i (Some box) = page_or_empty (page_at i.pages box)
+
 -- the page of an opening path, if its controller has ANA
 abbrev pub opening_page : Inputs → Controller → Option Page
-opening_page i c = if c.ana then Some (page_or_empty (page_at i.pages (unwrap_or c.page 0))) else None
+opening_page i c = if c.ana then Some (named_page i c.page) else None
 
 -- the row of a controller's opening path
 abbrev pub opening_row : Inputs → ℕ → Option Controller → Row
@@ -32,12 +37,23 @@ opening_row i ctrl (Some c) = record (given_row 0 (gift_of i.topology.nsid ctrl 
 -- the rows by slot: those of the opening paths, and then free ones
 abbrev pub opening_rows : Inputs → List Row
 opening_rows i =
-    take 15 (map (λ ctrl. opening_row i ctrl (slice_get i.topology.controllers ctrl)) i.topology.opening ++ replicate 15 (free_row 0))
+    let opened : ℕ → Row = λ ctrl. opening_row i ctrl (slice_get i.topology.controllers ctrl) in
+    take 15 (map opened i.topology.opening ++ replicate 15 (free_row 0))
 
 -- the opening paths take the slots from 0 on, in order
 abbrev pub opening : Inputs → State
 opening i =
-    record { rows = opening_rows i; order = order_of 0 i.topology.policy (range_with_len 0 (length i.topology.opening)); lasts = replicate 8 None; flights = replicate 17 []; waiting = []; removals = []; flips = 0; requests = [] }
+    record {
+      rows = opening_rows i;
+      order = order_of 0 i.topology.policy (range_with_len 0 (length i.topology.opening));
+      lasts = replicate 8 None;
+      flights = replicate 17 [];
+      waiting = [];
+      removals = [];
+      flips = 0;
+      requests = [];
+      notes = [];
+    }
 
 -- the entry of a row of the opening
 abbrev pub opening_entry : ℕ × Row → RowEntry

@@ -7,7 +7,7 @@ use Rattle.mp_topology.specs.declared.topology.Topology.{Topology}
 use Rattle.mp_topology.specs.declared.errors.TopologyError.{TopologyError}
 use Rattle.mp_topology.specs.Topology.{topology_in}
 use Rattle.mp_topology.specs.Fits.{fits_checks}
-use Rattle.mp_topology.specs.Unless.{value_unless}
+use Rattle.mp_checks.specs.Checks.{value_unless}
 use Rattle.mp_checks.specs.Checks.{first_fault}
 use Rattle.mp_page.specs.declared.boxes.BoxError.{BoxError}
 use Rattle.mp_page.specs.Boxes.{boxes_in}
@@ -25,11 +25,12 @@ use Rattle.mp_run.specs.Help.{help_text, version_text}
 use Rattle.mp_run.specs.PlainRun.{run_over}
 
 infixl 10 ◌>>=◌
+-- what follows from a result that is no refusal
 abbrev pub ◌>>=◌ : {A B : Type 0} → Result A Status → (A → Result B Status) → Result B Status
 (Ok x) >>= f = f x
 (Err e) >>= f = Err e
 
--- a file that was found; one that is longer than a file may be is refused
+-- the bytes of a file that was found, or the refusal: read fault where there is none, too long above 16,777,216 bytes
 abbrev pub read_found : ℕ → Option (List ℕ) → Result (List ℕ) Status
 read_found i None = Err (end.ReadFault i)
 read_found i (Some bytes) = if nat_le (length bytes) 16777216 then Ok bytes else Err (end.TooLong i)
@@ -38,6 +39,7 @@ read_found i (Some bytes) = if nat_le (length bytes) 16777216 then Ok bytes else
 abbrev pub read_of : Files → ℕ → List ℕ → Result (List ℕ) Status
 read_of files i name = read_found i (file_at files name)
 
+-- a topology, or the status of its refusal
 abbrev pub topology_or : {A : Type 0} → Result A TopologyError → Result A Status
 topology_or (Ok t) = Ok t
 topology_or (Err e) = Err (end.Topology e)
@@ -46,10 +48,12 @@ topology_or (Err e) = Err (end.Topology e)
 abbrev pub fits_in : Topology → ℕ → Result (Unit {0}) TopologyError
 fits_in t boxes = value_unless (first_fault (fits_checks boxes t.controllers)) tt
 
+-- the boxes, or the status of their refusal
 abbrev pub boxes_or : Result (List (List ℕ)) BoxError → Result (List (List ℕ)) Status
 boxes_or (Ok boxes) = Ok boxes
 boxes_or (Err e) = Err (end.Boxes e)
 
+-- a script, or the status of its refusal
 abbrev pub script_or : Result Script ScriptError → Result Script Status
 script_or (Ok s) = Ok s
 script_or (Err e) = Err (end.Script e)
@@ -115,12 +119,13 @@ IsRead files i name = (bytes : List ℕ) × (read_of files i name ≡ Ok bytes)
 
 -- there is a file with number i of the form, and the files before it were read
 abbrev pub AreReadBefore : Files → Form → ℕ → Type 0
-AreReadBefore files (serial names) i = (1 ≤ i) × (1 < i → IsRead files 1 names.topology) × (2 < i → IsRead files 2 names.boxes) × (i < 4)
+AreReadBefore files (serial names) i =
+    (1 ≤ i) × (1 < i → IsRead files 1 names.topology) × (2 < i → IsRead files 2 names.boxes) × (i < 4)
 AreReadBefore files (pages name max) i = i ≡ 1
 AreReadBefore files help i = ⊥
 AreReadBefore files version i = ⊥
 
--- for words of a form
+-- The words are of a form, and the files before the one with this number were read.
 abbrev pub BeforeFault : Files → Option Form → ℕ → Type 0
 BeforeFault files None i = ⊥
 BeforeFault files (Some form) i = AreReadBefore files form i
@@ -142,14 +147,14 @@ Answers read old new end.Ok = (text : List ℕ) × (read ≡ Ok text) × Appends
 Answers read old new end.WriteFault = (text : List ℕ) × (read ≡ Ok text) × AppendsFront old new text
 Answers read old new status = Refuses status read
 
--- what a read may answer
-abbrev pub IsReadStatus : Status → Type 0
-IsReadStatus end.NoMemory = Unit {0}
-IsReadStatus (end.ReadFault i) = Unit {0}
-IsReadStatus (end.TooLong i) = Unit {0}
-IsReadStatus _ = ⊥
+-- A status that the read of the file with this number may give.
+abbrev pub IsReadStatus : ℕ → Status → Type 0
+IsReadStatus file end.NoMemory = Unit {0}
+IsReadStatus file (end.ReadFault i) = i ≡ file
+IsReadStatus file (end.TooLong i) = i ≡ file
+IsReadStatus file _ = ⊥
 
--- what may be answered once the files are read
+-- A status that may be answered once the files are read.
 abbrev pub IsTextStatus : Status → Type 0
 IsTextStatus end.NoMemory = Unit {0}
 IsTextStatus (end.Topology e) = Unit {0}
@@ -157,7 +162,7 @@ IsTextStatus (end.Boxes e) = Unit {0}
 IsTextStatus (end.Script e) = Unit {0}
 IsTextStatus _ = ⊥
 
--- what may be answered to words of a form, before anything is written
+-- A status that may be answered to words of a form before anything is written.
 abbrev pub IsRunStatus : Status → Type 0
 IsRunStatus end.Ok = ⊥
 IsRunStatus end.Usage = ⊥

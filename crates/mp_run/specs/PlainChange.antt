@@ -5,8 +5,8 @@ use Rattle.mp_words.specs.declared.op.Effect.{Effect}
 use Rattle.mp_words.specs.declared.op.Effect.TheVariants as effect
 use Rattle.mp_record.specs.declared.event.Said.TheVariants as said
 use Rattle.mp_words.specs.Effect.{effect_of}
-use Rattle.mp_policy.specs.declared.path.Path.{Path}
-use Rattle.mp_policy.specs.PathTable.{has_ctrl}
+use Rattle.mp_words.specs.declared.path.Path.{Path}
+use Rattle.mp_words.specs.PathTable.{has_ctrl}
 use Rattle.mp_run.specs.PlainState.{State, paths_of}
 use Rattle.mp_run.specs.Stepped.{Stepped, Place, maker_of, says, makes}
 

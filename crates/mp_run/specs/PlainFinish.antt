@@ -7,8 +7,8 @@ use Rattle.mp_words.specs.declared.flight.Flight.{Flight}
 use Rattle.mp_words.specs.declared.trying.Back.{Back}
 use Rattle.mp_words.specs.declared.trying.Back.TheVariants.{Set, Unset}
 use Rattle.mp_record.specs.declared.event.Event.TheVariants.{Fin}
-use Rattle.mp_run.specs.declared.class.Class.{Class}
-use Rattle.mp_run.specs.declared.class.Class.TheVariants.{Complete, Failover, Retry}
+use Rattle.mp_status.specs.declared.class.Class.{Class}
+use Rattle.mp_status.specs.declared.class.Class.TheVariants.{Complete, Failover, Retry}
 use Rattle.mp_words.specs.declared.answers.Answer.{Answer}
 use Rattle.mp_words.specs.Effect.{cleared, the_slots}
 use Rattle.mp_run.specs.Answers.{hop_statuses, class_of_hop}
@@ -19,7 +19,8 @@ use Rattle.mp_run.specs.Stepped.{Stepped}
 -- pending is set where the status says so and the path has ANA
 abbrev pub pending_or_not : ℕ → State → Flight → ℕ → Bool → Back
 pending_or_not lane s flight hop ana =
-    if ana && (row_at s flight.slot).ana then Set (entry_of s flight.slot op.Pending (Hop lane flight.req hop)) else Unset
+    let set : Back = Set (entry_of s flight.slot op.Pending (Hop lane flight.req hop)) in
+    if ana && (row_at s flight.slot).ana then set else Unset
 
 -- how a flight comes back, if it does
 abbrev pub back_of : ℕ → State → Flight → ℕ → Class → Option Back
@@ -27,7 +28,7 @@ back_of lane s flight hop (Failover ana) = Some (pending_or_not lane s flight ho
 back_of lane s flight hop Complete = None
 back_of lane s flight hop Retry = None
 
--- the row entry of a flight that came back
+-- the row entry of a flight that came back with pending set, and none of another
 abbrev pub entries_of : Option Back → List RowEntry
 entries_of (Some (Set entry)) = entry ∷ []
 entries_of (Some Unset) = []
@@ -55,7 +56,8 @@ ended_tries statuses back tries = map_last (ended_try statuses back) tries
 -- the state without the flight, whose request has these tries
 abbrev pub landed : Flight → List Tried → State → State
 landed flight tries s =
-    record s { flights = slice_set s.flights flight.lane (filter (λ f. not (f.req == flight.req)) (slice_index_or s.flights flight.lane [])); requests = with_tries flight.req tries s.requests }
+    let others : List Flight = filter (λ f. not (f.req == flight.req)) (slice_index_or s.flights flight.lane []) in
+    record s { flights = slice_set s.flights flight.lane others; requests = with_tries flight.req tries s.requests }
 
 -- the statuses in six places
 abbrev pub six : List ℕ → List ℕ

@@ -9,8 +9,8 @@ use Rattle.mp_record.specs.declared.event.Said.TheVariants as said
 use Rattle.mp_words.specs.Row.{is_given}
 use Rattle.mp_words.specs.Order.{slots_of, next_order}
 use Rattle.mp_words.specs.Effect.{cleared, every_one, the_slots}
-use Rattle.mp_policy.specs.declared.path.Path.{Path}
-use Rattle.mp_policy.specs.PathTable.{has_ctrl}
+use Rattle.mp_words.specs.declared.path.Path.{Path}
+use Rattle.mp_words.specs.PathTable.{has_ctrl}
 use Rattle.mp_run.specs.Answers.{through_first}
 use Rattle.mp_run.specs.PlainState.{State, paths_of, depth_of, entry_of}
 use Rattle.mp_run.specs.Stepped.{Stepped, Place, maker_of, says, enters, makes, stores, and_then, each}

@@ -2,6 +2,7 @@
 use Rattle.std.specs.Prelude.{slice_index_or, ℕ, ◌==◌, List, [], ◌∷◌, ◌++◌, map, filter, length, Option, Some, None, Result, Ok, Err}
 use Rattle.mp_words.specs.declared.op.Op.TheVariants as op
 use Rattle.mp_words.specs.declared.flight.Flight.{Flight}
+use Rattle.mp_words.specs.Request.{Asked}
 use Rattle.mp_record.specs.declared.event.Event.TheVariants.{At}
 use Rattle.mp_record.specs.declared.event.Said.{Said}
 use Rattle.mp_record.specs.declared.event.Said.TheVariants as said
@@ -34,11 +35,11 @@ finishes s flights = record { state = s; said = said.Finish (length flights) ∷
 abbrev pub flights_of : ℕ → State → List Flight
 flights_of lane s = slice_index_or s.flights lane []
 
--- those of one request
+-- the flights of one request among these
 abbrev pub flights_with : ℕ → List Flight → List Flight
 flights_with req flights = filter (λ flight. flight.req == req) flights
 
--- the refusal of a page
+-- what a line says of a refused page
 abbrev pub page_said : PageError → Said
 page_said (refusal.ShortHeader offset) = said.Page 1 offset
 page_said (refusal.ShortDescriptor offset) = said.Page 2 offset
@@ -65,11 +66,16 @@ adds i s ctrl (Some box) = by_page s (page_at i.pages box) (λ page. add (gift_o
 -- how a line of a lane starts
 abbrev pub start_of : Inputs → ℕ → State → Line → Start
 start_of i lane s (line.Submit req node) =
-    record { state = record s { requests = s.requests ++ record { req = req; node = node; tries = [] } ∷ [] }; said = said.Submit ∷ []; calls = submit req ∷ [] }
+    let new : Asked = record { req = req; node = node; tries = [] } in
+    record { state = record s { requests = s.requests ++ new ∷ [] }; said = said.Submit ∷ []; calls = submit req ∷ [] }
 start_of i lane s (line.Finish req) = finishes s (flights_with req (flights_of lane s))
 start_of i lane s line.FinishAll = finishes s (flights_of lane s)
 start_of i lane s line.Requeue =
-    record { state = record s { waiting = [] }; said = said.Requeue (length s.waiting) ∷ []; calls = map submit s.waiting }
+    record {
+      state = record s { waiting = [] };
+      said = said.Requeue (length s.waiting) ∷ [];
+      calls = map submit s.waiting;
+    }
 start_of i lane s (line.Log ctrl box) = by_page s (page_at i.pages box) (reads_log i.topology.nsid ctrl)
 start_of i lane s (line.Ctrl ctrl cstate) = calls s (change ctrl (op.Ctrl cstate) ∷ [])
 start_of i lane s (line.Anatt ctrl) = calls s (change ctrl op.Expire ∷ [])
@@ -83,7 +89,7 @@ abbrev pub turn_start : Inputs → ℕ → State → Option Numbered1 → Start
 turn_start i lane s (Some l) = start_of i lane s l.line
 turn_start i lane s None = finishes s (flights_of lane s)
 
--- the place of a turn; the end is line 0
+-- the place of a turn; the end of a lane is line 0
 abbrev pub place_of : ℕ → Option Numbered1 → Place
 place_of lane (Some l) = record { lane = lane; line = l.number }
 place_of lane None = record { lane = lane; line = 0 }

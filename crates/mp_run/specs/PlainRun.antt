@@ -5,6 +5,7 @@ use Rattle.std.specs.BTreeMap.{insert_entry}
 use Rattle.std.specs.Ordering.{nat_cmp}
 use Rattle.mp_words.specs.declared.entry.RowEntry.{RowEntry}
 use Rattle.mp_words.specs.declared.entry.KeepEntry.TheVariants as keep
+use Rattle.mp_words.specs.declared.note.Note.{Note}
 use Rattle.mp_record.specs.declared.event.Event.{Event}
 use Rattle.mp_script.specs.declared.script.LanePlan.{LanePlan}
 use Rattle.mp_script.specs.declared.script.Script.{Script}
@@ -55,6 +56,7 @@ by_number requests = map (λ entry. entry.1) (entries_of requests)
 -- the run of these turns and of the drain behind them
 abbrev pub run_of : Inputs → List LanePlan → List Taken → Stepped → RunView
 run_of i lanes ts last = record {
+  nsid = i.topology.nsid;
   keeper = position (λ lane. lane.keeper) lanes;
   rows = map (rows_in (flat_map (λ t. t.step.rows) ts ++ last.rows)) (map opening_entry (enumerate_from 0 (opening i).rows));
   keeping = map keep.Order (first_order i ∷ flat_map (λ t. t.step.orders) ts ++ last.orders);
@@ -69,6 +71,14 @@ plain_run i lanes =
     let ts = taken i (opening i) (turns_of lanes) in
     run_of i lanes ts (drain i (state_after (opening i) ts))
 
+-- the state that is left once the lanes have ended and the drain is done
+abbrev pub state_left : Inputs → List LanePlan → State
+state_left i lanes = (drain i (state_after (opening i) (taken i (opening i) (turns_of lanes)))).state
+
 -- the run of a script over a world
 unfoldable pub run_over : World → Script → RunView
 run_over world script = plain_run (inputs_by page_in world script) script.lanes
+
+-- what each try of the run of a script over a world noted, with its request's number, in the order of the tries
+unfoldable pub notes_over : World → Script → List (ℕ × Note)
+notes_over world script = (state_left (inputs_by page_in world script) script.lanes).notes

@@ -1,18 +1,22 @@
 -- The state of a run on one thread.
-use Rattle.std.specs.Prelude.{ℕ, ◌==◌, List, [], map, sum_by, count_by, find, Option, Some, None, slice_index_or, slice_set, if◌then◌else◌}
+use Rattle.std.specs.Prelude.{ℕ, ◌==◌, List, [], map, replicate, sum_by, count_by, find, Option, Some, None, nat_lt, slice_index_or, slice_set, false, if◌then◌else◌}
+use Rattle.std.specs.List.{range_with_len}
 use Rattle.mp_words.specs.declared.row.Row.{Row}
 use Rattle.mp_words.specs.declared.order.Order.{Order}
 use Rattle.mp_words.specs.declared.op.Op.{Op}
 use Rattle.mp_words.specs.declared.op.Maker.{Maker}
 use Rattle.mp_words.specs.declared.entry.RowEntry.{RowEntry}
 use Rattle.mp_words.specs.declared.flight.Flight.{Flight}
+use Rattle.mp_words.specs.declared.note.Note.{Note}
+use Rattle.mp_words.specs.declared.reading.Reading.{Reading}
 use Rattle.mp_words.specs.Order.{slots_of}
 use Rattle.mp_words.specs.Request.{Tried, Asked}
 use Rattle.mp_words.specs.Effect.{free_row, row_after, clears_of, cleared}
-use Rattle.mp_policy.specs.declared.path.Path.{Path}
+use Rattle.mp_words.specs.declared.path.Path.{Path}
 
 -- The rows by slot, the list, the last choices by node, the flights of each lane (the drain is lane 16) in the order
--- sent, the waiting requests, the slots under removal, the number of flips, and the requests in the order submitted.
+-- sent, the waiting requests, the slots under removal, the number of flips, the requests in the order submitted, and
+-- what each try noted, with its request's number, in the order of the tries.
 pub record State : Type 0 where
   pub rows : List Row
   pub order : Order
@@ -22,6 +26,7 @@ pub record State : Type 0 where
   pub removals : List ℕ
   pub flips : ℕ
   pub requests : List Asked
+  pub notes : List (ℕ × Note)
 
 -- the row of a slot
 abbrev pub row_at : State → ℕ → Row
@@ -30,6 +35,32 @@ row_at s slot = slice_index_or s.rows slot (free_row 0)
 -- the listed slots in order, each with its row
 abbrev pub paths_of : State → List Path
 paths_of s = map (λ slot. record { slot = slot; row = row_at s slot }) (slots_of s.order)
+
+-- the row of the slot at a place of a list of so many slots, and a free row behind them
+abbrev pub read_row : List Row → List ℕ → ℕ → ℕ → Row
+read_row rows slots len place =
+    if nat_lt place len then slice_index_or rows (slice_index_or slots place 0) (free_row 0) else free_row 0
+
+-- what a choice reads: the listed slots, each with its row, and free rows in the places behind them
+abbrev pub reading_of : State → Reading
+reading_of s = record {
+  len = s.order.len;
+  slots = s.order.slots;
+  rows = map (read_row s.rows s.order.slots s.order.len) (range_with_len 0 8);
+}
+
+-- what a try by a lane notes: nothing of a section yet but what it read
+abbrev pub note_of : ℕ → State → Note
+note_of lane s = record {
+  lane = lane;
+  side = 0;
+  ticket = 0;
+  order = None;
+  reading = reading_of s;
+  read = replicate 8 false;
+  current = None;
+  depths = replicate 8 None;
+}
 
 -- the number of flights on a slot
 abbrev pub depth_of : State → ℕ → ℕ

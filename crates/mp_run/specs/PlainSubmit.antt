@@ -8,10 +8,11 @@ use Rattle.mp_words.specs.declared.trying.TryEnd.{TryEnd}
 use Rattle.mp_words.specs.declared.trying.TryEnd.TheVariants.{Sent, Listed, Failed}
 use Rattle.mp_record.specs.declared.event.Event.TheVariants.{Try}
 use Rattle.mp_words.specs.Row.{is_available}
-use Rattle.mp_policy.specs.declared.path.Path.{Path}
+use Rattle.mp_words.specs.declared.path.Path.{Path}
 use Rattle.mp_policy.specs.Choices.{numa_choice, round_robin_choice, queue_depth_choice}
-use Rattle.mp_words.specs.Request.{Asked}
-use Rattle.mp_run.specs.PlainState.{State, paths_of, depth_of, request_of, with_tries}
+use Rattle.mp_words.specs.declared.flight.Flight.{Flight}
+use Rattle.mp_words.specs.Request.{Tried, Asked}
+use Rattle.mp_run.specs.PlainState.{State, paths_of, depth_of, request_of, with_tries, note_of}
 use Rattle.mp_run.specs.Stepped.{Stepped, tells}
 
 -- the policy's choice for a node
@@ -34,18 +35,26 @@ lasts_with QueueDepth node slot lasts = lasts
 -- the state after a try of a request by a lane
 abbrev pub after_try : ℕ → State → Asked → TryEnd → State
 after_try lane s a (Sent slot version) =
-    record s { flights = slice_set s.flights lane (slice_index_or s.flights lane [] ++ record { slot = slot; version = version; req = a.req; lane = lane } ∷ []); lasts = lasts_with s.order.policy a.node slot s.lasts }
+    let flight : Flight = record { slot = slot; version = version; req = a.req; lane = lane } in
+    record s {
+      flights = slice_set s.flights lane (slice_index_or s.flights lane [] ++ flight ∷ []);
+      lasts = lasts_with s.order.policy a.node slot s.lasts;
+    }
 after_try lane s a Listed = record s { waiting = s.waiting ++ a.req ∷ [] }
 after_try lane s a Failed = s
 
--- the state with one more try of a request
-abbrev pub noted_try : State → Asked → TryEnd → State
-noted_try s a end =
-    record s { requests = with_tries a.req (a.tries ++ record { end = end; statuses = []; back = None } ∷ []) s.requests }
+-- the state with one more try of a request by a lane, and with what it noted
+abbrev pub noted_try : ℕ → State → Asked → TryEnd → State
+noted_try lane s a end =
+    let made : Tried = record { end = end; statuses = []; back = None } in
+    record s {
+      requests = with_tries a.req (a.tries ++ made ∷ []) s.requests;
+      notes = s.notes ++ (a.req, note_of lane s) ∷ [];
+    }
 
 -- a try that ends so
 abbrev pub tried : ℕ → State → Asked → TryEnd → Stepped
-tried lane s a end = tells (noted_try (after_try lane s a end) a end) (Try a.req (length a.tries + 1) end ∷ [])
+tried lane s a end = tells (noted_try lane (after_try lane s a end) a end) (Try a.req (length a.tries + 1) end ∷ [])
 
 -- one try of a request by a lane
 abbrev pub submitted : Near → ℕ → State → ℕ → Stepped

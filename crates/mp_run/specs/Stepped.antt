@@ -40,13 +40,21 @@ enters s entry = record { state = with_entry s entry; rows = entry ∷ []; order
 
 -- a step that stores this order
 abbrev pub stores : Place → State → Order → Stepped
-stores at s order =
-    record { state = record s { order = order }; rows = []; orders = record { order = order; by = maker_of at } ∷ []; events = [] }
+stores at s order = record {
+  state = record s { order = order };
+  rows = [];
+  orders = record { order = order; by = maker_of at } ∷ [];
+  events = [];
+}
 
 -- what the first step gives, and then the second, where that leads
 abbrev pub joined : Stepped → Stepped → Stepped
-joined first next =
-    record { state = next.state; rows = first.rows ++ next.rows; orders = first.orders ++ next.orders; events = first.events ++ next.events }
+joined first next = record {
+  state = next.state;
+  rows = first.rows ++ next.rows;
+  orders = first.orders ++ next.orders;
+  events = first.events ++ next.events;
+}
 
 -- a step, and then another from where it leads
 abbrev pub and_then : Stepped → (State → Stepped) → Stepped

@@ -78,12 +78,15 @@ settled lane p = by_left p.left
   where
     by_left : Option ℕ → Paid
     by_left (Some left) = p
-    by_left None = record { step = record (p.step) { state = record (p.step.state) { flights = slice_set p.step.state.flights lane [] } }; left = None }
+    by_left None =
+        let ended : State = record (p.step.state) { flights = slice_set p.step.state.flights lane [] } in
+        record { step = record (p.step) { state = ended }; left = None }
 
 -- what is said, and then each call that can be paid
 abbrev pub pay_line : Inputs → Place → ℕ → Start → Paid
 pay_line i at left start =
-    paid_then (record { step = opens at start; left = Some left }) (λ s rest. each_paid (pay_call i at) s rest start.calls)
+    paid_then (record { step = opens at start; left = Some left })
+    (λ s rest. each_paid (pay_call i at) s rest start.calls)
 
 -- a turn of a lane; a spent lane takes none
 abbrev pub pay_turn : Inputs → ℕ → State → Option Numbered1 → Option ℕ → Paid
@@ -112,7 +115,8 @@ pay_request i s left req =
 -- one round of the drain
 abbrev pub pay_round : Inputs → State → ℕ → Paid
 pay_round i s left =
-    paid_then (record { step = says drain_place (record s { waiting = [] }) (said.Requeue (length s.waiting)); left = Some left })
+    let opened : Stepped = says drain_place (record s { waiting = [] }) (said.Requeue (length s.waiting)) in
+    paid_then (record { step = opened; left = Some left })
     (λ t rest. each_paid (pay_request i) t rest s.waiting)
 
 -- this round and those after it; the first that sends nothing is the last
@@ -128,17 +132,19 @@ pay_drain i s left =
     paid_then (each_paid (pay_call i drain_place) s left (map (λ slot. reap) s.removals))
     (λ t rest. pay_rounds i (most_rounds i t) (pay_round i t rest))
 
--- the run, or the least lane that is spent
+-- the run of the turns that were taken and of the drain, or lane 16 where the drain is spent
+abbrev pub run_drained : Inputs → List LanePlan → List Taken → Stepped → Option ℕ → Result RunView ℕ
+run_drained i lanes ts last None = Err 16
+run_drained i lanes ts last (Some left) = Ok (run_of i lanes ts last)
+
+-- the drain behind the turns, where no lane is spent, or the first lane that is
+abbrev pub run_paid : ℕ → Inputs → List LanePlan → List Taken → Option ℕ → Result RunView ℕ
+run_paid allowance i lanes ts (Some lane) = Err lane
+run_paid allowance i lanes ts None =
+    let p = pay_drain i (state_after (opening i) ts) allowance in run_drained i lanes ts p.step p.left
+
+-- the run with an allowance of units for each lane and for the drain, or the least lane that is spent
 abbrev pub serial_run : ℕ → Inputs → List LanePlan → Result RunView ℕ
-serial_run allowance i lanes = ran (pay_turns i (opening i) (replicate (length lanes) (Some allowance)) (turns_of lanes))
-  where
-    drained : Paying → Paid → Option ℕ → Result RunView ℕ
-    drained ts p None = Err 16
-    drained ts p (Some left) = Ok (run_of i lanes ts.taken p.step)
-
-    after_lanes : Paying → Option ℕ → Result RunView ℕ
-    after_lanes ts (Some lane) = Err lane
-    after_lanes ts None = let p = pay_drain i (state_after (opening i) ts.taken) allowance in drained ts p p.left
-
-    ran : Paying → Result RunView ℕ
-    ran ts = after_lanes ts (position is_none ts.lefts)
+serial_run allowance i lanes =
+    let ts = pay_turns i (opening i) (replicate (length lanes) (Some allowance)) (turns_of lanes) in
+    run_paid allowance i lanes ts.taken (position is_none ts.lefts)

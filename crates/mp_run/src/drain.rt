@@ -24,13 +24,6 @@ fn drain_lane() -> LaneId
     LaneId::make(16).unwrap()
 }
 
-/// Whether one of two is true.
-fn either(first: bool, second: bool) -> bool
-    ensures { result ≡ (first || second) }
-{
-    first || second
-}
-
 impl Engine {
     /// Submits a request that waits, and ends it at once if it was sent. Answers whether it was.
     fn send_and_finish(
@@ -71,7 +64,7 @@ impl Engine {
         let mut any_sent = false;
         for req in requests {
             let sent = self.send_and_finish(alloc, notes, world, *req)?;
-            any_sent = either(any_sent, sent);
+            any_sent |= sent;
         }
         Ok(any_sent)
     }

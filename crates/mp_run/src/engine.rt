@@ -1,14 +1,14 @@
 //! The state of a run, and its calls.
 
 ghost use Rattle.std.specs.Prelude.{◌≡◌, ◌≤◌, ◌<◌, ℕ, true, false, [], IfOk, OnOk, Some, None, length, map, take, zip, replicate, slice_index_or};
-ghost use Rattle.std.specs.List.{list_any};
+ghost use Rattle.std.specs.List.{list_any, range_with_len};
 ghost use Rattle.mp_words.specs.declared.trying.Outcome.TheVariants as outcome;
 ghost use Rattle.mp_record.specs.declared.event.Event.TheVariants as event;
 ghost use Rattle.mp_words.specs.Effect.{free_row};
 ghost use Rattle.mp_words.specs.Row.{is_available};
 ghost use Rattle.mp_words.specs.Request.{Asked};
-ghost use Rattle.mp_policy.specs.PathTable as table;
-ghost use Rattle.mp_run.specs.PlainState.{paths_of};
+ghost use Rattle.mp_words.specs.PathTable as table;
+ghost use Rattle.mp_run.specs.PlainState.{paths_of, reading_of, read_row};
 ghost use Rattle.mp_run.specs.PlainSubmit.{submitted, end_of, choice_by, after_try};
 ghost use Rattle.mp_run.specs.PlainFinish.{finished};
 ghost use Rattle.mp_run.specs.PlainLine.{flights_of};
@@ -17,6 +17,7 @@ ghost use Rattle.mp_run.specs.Drain.{is_sent};
 ghost use Rattle.mp_run.specs.Numbers.{has_req, standing, has_flight};
 ghost use Rattle.mp_run.specs.Engine.{state_of, IsReady, Does, AreSent};
 
+use crate::aloft::Aloft;
 use crate::error::RunError;
 use crate::flights::Flights;
 use crate::opening::free_row;
@@ -24,7 +25,6 @@ use crate::requests::Requests;
 use mp_policy::choice::numa;
 use mp_record::event::Event;
 use mp_record::notes::LaneNotes;
-use mp_words::flight::Flight;
 use mp_words::near::Near;
 use mp_words::note::Note;
 use mp_words::numbers::{LaneId, Node, ReqId, Slot};
@@ -49,6 +49,7 @@ impl Engine {
     /// What a choice reads.
     fn reading(&self) -> Reading
         requires ready { IsReady (state_of self.now) }
+        ensures whole { result ≡ reading_of (state_of self.now) }
         ensures within { result.len ≤ 8 }
         ensures paths { table.paths_of result ≡ paths_of (state_of self.now) }
     {
@@ -88,7 +89,7 @@ impl Engine {
         match end {
             TryEnd::Sent(slot, version) => {
                 let flights = &mut self.flights[lane.get() as usize];
-                flights.push(Flight {
+                flights.push(Aloft {
                     slot,
                     version,
                     req,
@@ -111,8 +112,8 @@ impl Engine {
         req: ReqId,
     ) -> Result<bool, RunError>
         requires ready { IsReady (state_of self.old) }
-        requires there { has_req req self.old.requests ≡ true }
-        requires waiting { standing req self.old.requests ≡ outcome.Waiting }
+        requires there { has_req req self.old.requests.asked ≡ true }
+        requires waiting { standing req self.old.requests.asked ≡ outcome.Waiting }
         requires apart { has_flight req (flights_of lane (state_of self.old)) ≡ false }
         ensures does { OnOk result (Does (submitted near.now lane (state_of self.old) req) (state_of self.new) notes.old.events notes.new.events) }
         ensures sent { IfOk result (λ sent. sent ≡ list_any is_sent (submitted near.now lane (state_of self.old) req).events) }
@@ -131,9 +132,9 @@ impl Engine {
     }
 
     /// Ends a flight, of which each attempt has status 0, and notes it.
-    fn finish(&mut self, notes: &mut LaneNotes, flight: Flight) -> Result<(), RunError>
+    fn finish(&mut self, notes: &mut LaneNotes, flight: Aloft) -> Result<(), RunError>
         requires ready { IsReady (state_of self.old) }
-        requires sent { standing flight.req self.old.requests ≡ outcome.Sent }
+        requires sent { standing flight.req self.old.requests.asked ≡ outcome.Sent }
         ensures does { (lane : ℕ) → OnOk result (Does (finished [] lane (state_of self.old) flight) (state_of self.new) notes.old.events notes.new.events) }
         ensures ready { OnOk result (IsReady (state_of self.new)) }
     {
@@ -153,9 +154,9 @@ impl Engine {
     }
 
     /// Ends these flights in turn.
-    pub fn finish_each(&mut self, notes: &mut LaneNotes, flights: &[Flight]) -> Result<(), RunError>
+    pub fn finish_each(&mut self, notes: &mut LaneNotes, flights: &[Aloft]) -> Result<(), RunError>
         requires ready { IsReady (state_of self.old) }
-        requires sent { AreSent self.old.requests flights.now }
+        requires sent { AreSent self.old.requests.asked flights.now }
         ensures does { (lane : ℕ) → OnOk result (Does (each (finished [] lane) (state_of self.old) flights.now) (state_of self.new) notes.old.events notes.new.events) }
         ensures ready { OnOk result (IsReady (state_of self.new)) }
     {
@@ -170,7 +171,8 @@ impl Engine {
 fn rows_read(rows: &[Row], slots: &[Slot; 8], len: u8) -> [Row; 8]
     requires all { 15 ≤ length rows.now }
     requires within { len ≤ 8 }
-    ensures { map table.path_of (take len (zip slots.now result)) ≡ map (λ slot. record { slot = slot; row = slice_index_or rows.now slot (free_row 0) }) (take len slots.now) }
+    ensures rows { result ≡ map (read_row rows.now slots.now len) (range_with_len 0 8) }
+    ensures paths { map table.path_of (take len (zip slots.now result)) ≡ map (λ slot. record { slot = slot; row = slice_index_or rows.now slot (free_row 0) }) (take len slots.now) }
 {
     let mut read = [free_row(); 8];
     for place in 0..usize::from(len) {
@@ -194,7 +196,9 @@ fn any_available(rows: &[Row], slots: &[Slot; 8], len: u8) -> bool
 }
 
 /// The note of a section of which nothing is told yet but the reading.
-fn blank_note(lane: LaneId, reading: &Reading) -> Note {
+fn blank_note(lane: LaneId, reading: &Reading) -> Note
+    ensures { result ≡ record { lane = lane; side = 0; ticket = 0; order = None; reading = reading.now; read = replicate 8 false; current = None; depths = replicate 8 None } }
+{
     Note {
         lane,
         side: 0,

@@ -6,9 +6,9 @@ ghost use Rattle.mp_run.specs.Numbers.{has_flight};
 ghost use Rattle.mp_run.specs.PlainLine.{flights_with};
 ghost use Rattle.mp_run.specs.Flying.{flying, flight_at};
 
+use crate::aloft::Aloft;
 use crate::error::RunError;
 use crate::index::Index;
-use mp_words::flight::Flight;
 use mp_words::numbers::ReqId;
 use std::alloc::Global;
 use std::marker::Model;
@@ -18,7 +18,7 @@ use std::marker::Model;
 /// Once none is left, the places are given back, so going over them costs no more than the sending did.
 #[derive(Drop)]
 pub struct Flights {
-    sent: Vec<Option<Flight>>,
+    sent: Vec<Option<Aloft>>,
     index: Index,
     count: usize,
 }
@@ -53,7 +53,7 @@ impl Flights {
     /// # Errors
     ///
     /// `NoMemory` where memory runs out.
-    pub fn push(&mut self, flight: Flight) -> Result<(), RunError>
+    pub fn push(&mut self, flight: Aloft) -> Result<(), RunError>
         requires fresh { has_flight flight.req self.old ≡ false }
         ensures { OnOk result (self.new ≡ self.old ++ flight ∷ []) }
     {
@@ -66,7 +66,7 @@ impl Flights {
     }
 
     /// The flight of a request, where it flies.
-    pub fn find(&self, req: ReqId) -> Option<Flight>
+    pub fn find(&self, req: ReqId) -> Option<Aloft>
         ensures { option_to_list result ≡ flights_with req self.now }
     {
         flight_at(&self.sent, self.index.at(req), req)
@@ -94,7 +94,7 @@ impl Flights {
     /// # Errors
     ///
     /// `NoMemory` where memory runs out.
-    pub fn all(&self, alloc: Global) -> Result<Vec<Flight>, RunError>
+    pub fn all(&self, alloc: Global) -> Result<Vec<Aloft>, RunError>
         ensures { IfOk result (λ all. all.items ≡ self.now) }
     {
         all_of(alloc, &self.sent)
@@ -102,7 +102,7 @@ impl Flights {
 }
 
 /// The flight at a place, where it is there and is the request's.
-fn flight_at(sent: &[Option<Flight>], place: usize, req: ReqId) -> Option<Flight>
+fn flight_at(sent: &[Option<Aloft>], place: usize, req: ReqId) -> Option<Aloft>
     ensures { result ≡ flight_at sent.now place req }
 {
     match sent.get(place) {
@@ -118,7 +118,7 @@ fn flight_at(sent: &[Option<Flight>], place: usize, req: ReqId) -> Option<Flight
 }
 
 /// The flights that are there.
-fn all_of(alloc: Global, sent: &[Option<Flight>]) -> Result<Vec<Flight>, RunError>
+fn all_of(alloc: Global, sent: &[Option<Aloft>]) -> Result<Vec<Aloft>, RunError>
     ensures { IfOk result (λ all. all.items ≡ flying sent.now) }
 {
     let mut all = Vec::new(alloc);

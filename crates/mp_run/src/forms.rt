@@ -55,10 +55,7 @@ fn option_form<'w>(word: &'w str) -> Option<Form<'w>>
 fn pages_form<'w>(boxes: &'w str, bound: Option<u32>) -> Option<Form<'w>>
     ensures { option_map told_form result ≡ pages_form boxes.now bound }
 {
-    match bound {
-        Some(bound) => Some(Form::Pages(boxes, bound)),
-        None => None,
-    }
+    bound.map(|bound| Form::Pages(boxes, bound))
 }
 
 /// The form of the words, if they have one.

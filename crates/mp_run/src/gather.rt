@@ -1,8 +1,10 @@
 //! The parts of a run.
 
-ghost use Rattle.std.specs.Prelude.{◌≡◌, ◌∷◌, [], ◌<◌, ◌≤◌, IfOk, OnOk, map, length};
+ghost use Rattle.std.specs.Prelude.{◌≡◌, ◌∷◌, [], ◌<◌, ◌≤◌, ℕ, List, IfOk, OnOk, map, length};
 ghost use Rattle.std.specs.List.{enumerate_from};
+ghost use Rattle.mp_words.specs.declared.note.Note.{Note};
 ghost use Rattle.mp_words.specs.Request.{asked_of};
+ghost use Rattle.mp_run.specs.Notes.{AreNoted};
 ghost use Rattle.mp_run.specs.Opening.{opening_entry};
 ghost use Rattle.mp_run.specs.PlainRun.{by_number, entries_of};
 ghost use Rattle.std.specs.BTreeMap.{insert_entry};
@@ -67,7 +69,8 @@ pub fn keeping(alloc: Global, order: Order) -> Result<Items<KeepEntry>, RunError
 
 /// Puts a request at its number.
 fn put(placed: &mut BTreeMap<u32, Request>, request: Request) -> Result<(), RunError>
-    ensures { OnOk result (map told placed.new.entries ≡ insert_entry nat_cmp (map told placed.old.entries) (asked_of request).req (asked_of request)) }
+    ensures entries { OnOk result (placed.new.entries ≡ insert_entry nat_cmp placed.old.entries request.id request) }
+    ensures told { OnOk result (map told placed.new.entries ≡ insert_entry nat_cmp (map told placed.old.entries) (asked_of request).req (asked_of request)) }
 {
     let _old = placed.insert(request.id().get(), request)?;
     Ok(())
@@ -75,7 +78,8 @@ fn put(placed: &mut BTreeMap<u32, Request>, request: Request) -> Result<(), RunE
 
 /// Puts each request at its number.
 fn placed(alloc: Global, requests: Vec<Request>) -> Result<BTreeMap<u32, Request>, RunError>
-    ensures { IfOk result (λ placed. map told placed.entries ≡ entries_of (map asked_of requests.items)) }
+    ensures told { IfOk result (λ placed. map told placed.entries ≡ entries_of (map asked_of requests.items)) }
+    ensures noted { (made : List (ℕ × Note)) → AreNoted made requests.items → IfOk result (λ placed. AreNoted made (map (λ entry. entry.1) placed.entries)) }
 {
     let mut placed = BTreeMap::new(alloc);
     for request in requests {
@@ -93,7 +97,8 @@ fn values_of(alloc: Global, placed: BTreeMap<u32, Request>) -> Result<Vec<Reques
 
 /// The requests by number.
 pub fn numbered(alloc: Global, requests: Vec<Request>) -> Result<Items<Request>, RunError>
-    ensures { IfOk result (λ all. map asked_of all ≡ by_number (map asked_of requests.items)) }
+    ensures told { IfOk result (λ all. map asked_of all ≡ by_number (map asked_of requests.items)) }
+    ensures noted { (made : List (ℕ × Note)) → AreNoted made requests.items → IfOk result (AreNoted made) }
 {
     let placed = placed(alloc, requests)?;
     let all = values_of(alloc, placed)?;

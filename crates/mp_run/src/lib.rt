@@ -1,8 +1,8 @@
 //! Runs a script on one thread, and the top call.
 #![tactic(auto)]
 
+mod aloft;
 pub mod cases;
-pub mod class;
 mod drain;
 mod engine;
 pub mod error;
@@ -20,4 +20,5 @@ pub mod run;
 pub mod status;
 mod texts;
 pub mod top;
+mod try_notes;
 mod turns;

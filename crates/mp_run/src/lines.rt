@@ -10,13 +10,13 @@ ghost use Rattle.mp_run.specs.Inputs.{inputs_of};
 ghost use Rattle.mp_run.specs.LaneTurns.{submit_in, IsSimpleTurn};
 ghost use Rattle.mp_run.specs.Engine.{state_of, finishes_line, IsReady, Does, AreSent};
 
+use crate::aloft::Aloft;
 use crate::engine::Engine;
 use crate::error::RunError;
 use crate::turns::LaneTurn;
 use mp_record::event::{Event, Said};
 use mp_record::notes::LaneNotes;
 use mp_script::script::{Line, Numbered1, World};
-use mp_words::flight::Flight;
 use mp_words::numbers::{LaneId, Node, ReqId};
 use std::alloc::Global;
 
@@ -34,7 +34,7 @@ impl Engine {
     ) -> Result<(), RunError>
         requires ready { IsReady (state_of self.old) }
         requires sound { IsSound (state_of self.old) [] }
-        requires fresh { has_req req self.old.requests ≡ false }
+        requires fresh { has_req req self.old.requests.asked ≡ false }
         ensures does { OnOk result (Does (turn_step (inputs_of world.now) lane (state_of self.old) (Some (record { number = number; line = line.Submit req node }))) (state_of self.new) notes.old.events notes.new.events) }
         ensures ready { OnOk result (IsReady (state_of self.new)) }
         ensures sound { OnOk result (IsSound (state_of self.new) []) }
@@ -57,10 +57,10 @@ impl Engine {
         &mut self,
         notes: &mut LaneNotes,
         number: u32,
-        flights: &[Flight],
+        flights: &[Aloft],
     ) -> Result<(), RunError>
         requires ready { IsReady (state_of self.old) }
-        requires sent { AreSent self.old.requests flights.now }
+        requires sent { AreSent self.old.requests.asked flights.now }
         requires few { length flights.now < 2 ^ 32 }
         ensures does { (lane : ℕ) → OnOk result (Does (finishes_line lane number flights.now (state_of self.old)) (state_of self.new) notes.old.events notes.new.events) }
         ensures ready { OnOk result (IsReady (state_of self.new)) }
@@ -122,7 +122,7 @@ impl Engine {
         requires ready { IsReady (state_of self.old) }
         requires sound { IsSound (state_of self.old) [] }
         requires simple { IsSimpleTurn turn.line }
-        requires fresh { (req : ℕ) → has (submit_in turn.line) req ≡ true → has_req req self.old.requests ≡ false }
+        requires fresh { (req : ℕ) → has (submit_in turn.line) req ≡ true → has_req req self.old.requests.asked ≡ false }
         ensures does { OnOk result (Does (turn_step (inputs_of world.now) turn.lane (state_of self.old) turn.line) (state_of self.new) notes.old.events notes.new.events) }
         ensures ready { OnOk result (IsReady (state_of self.new)) }
         ensures sound { OnOk result (IsSound (state_of self.new) []) }
@@ -146,7 +146,7 @@ impl Engine {
         requires ready { IsReady (state_of self.old) }
         requires sound { IsSound (state_of self.old) [] }
         requires simple { IsSimpleTurn (Some numbered) }
-        requires fresh { (req : ℕ) → has (submit_in (Some numbered)) req ≡ true → has_req req self.old.requests ≡ false }
+        requires fresh { (req : ℕ) → has (submit_in (Some numbered)) req ≡ true → has_req req self.old.requests.asked ≡ false }
         ensures does { OnOk result (Does (turn_step (inputs_of world.now) lane (state_of self.old) (Some numbered)) (state_of self.new) notes.old.events notes.new.events) }
         ensures ready { OnOk result (IsReady (state_of self.new)) }
         ensures sound { OnOk result (IsSound (state_of self.new) []) }

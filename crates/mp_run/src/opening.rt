@@ -1,6 +1,6 @@
 //! The state with which a run begins.
 
-ghost use Rattle.std.specs.Prelude.{◌≡◌, ◌<◌, ◌≤◌, ◌++◌, IfOk, OnOk, Some, map, length, slice_get, vec_len, take, replicate, unwrap_or, All};
+ghost use Rattle.std.specs.Prelude.{◌≡◌, ◌<◌, ◌≤◌, ◌++◌, IfOk, OnOk, Some, map, length, slice_get, vec_len, take, replicate, All};
 ghost use Rattle.std.specs.List.{range_with_len};
 ghost use Rattle.mp_words.specs.Effect.{free_row, given_row};
 ghost use Rattle.mp_page.specs.Page.{page_in};
@@ -83,17 +83,20 @@ fn gift_in(alloc: Global, topology: &Topology, ctrl: Ctrl, bytes: &[u8]) -> Resu
     }
 }
 
-/// What an opening path with ANA begins with, by the page in a box. A box that isn't there counts as an empty page.
-fn boxed_gift(alloc: Global, world: &World, ctrl: Ctrl, number: u32) -> Result<Gift, RunError>
+/// What an opening path with ANA begins with, by the page in the box that is named. Without a name, and where the box
+/// isn't there, the page counts as an empty one.
+fn boxed_gift(alloc: Global, world: &World, ctrl: Ctrl, page: Option<u32>) -> Result<Gift, RunError>
     requires world { IsWorld world.now }
-    ensures { IfOk result (λ gift. gift ≡ gifts.gift_of world.now.topology.nsid ctrl (Some (plain.page_or_empty (gifts.page_at (inputs_of world.now).pages number)))) }
+    ensures { IfOk result (λ gift. gift ≡ gifts.gift_of world.now.topology.nsid ctrl (Some (plain.named_page (inputs_of world.now) page))) }
 {
-    let boxes = world.pages.as_slice();
-    let number = number as usize;
-    if number < boxes.len() {
-        gift_in(alloc, &world.topology, ctrl, boxes[number].as_slice())
-    } else {
-        Ok(stated_gift(ctrl, false, None))
+    match page {
+        Some(number) if (number as usize) < world.pages.len() => gift_in(
+            alloc,
+            &world.topology,
+            ctrl,
+            world.pages.get(number as usize).unwrap(),
+        ),
+        _ => Ok(stated_gift(ctrl, false, None)),
     }
 }
 
@@ -114,16 +117,6 @@ fn row_of(gift: Gift, cstate: CState) -> Row
     }
 }
 
-/// The number of the box with a controller's page.
-fn box_of(page: Option<u32>) -> u32
-    ensures { result ≡ unwrap_or page 0 }
-{
-    match page {
-        Some(number) => number,
-        None => 0,
-    }
-}
-
 /// The row of a controller's opening path.
 fn opening_row(alloc: Global, world: &World, ctrl: Ctrl) -> Result<Row, RunError>
     requires world { IsWorld world.now }
@@ -133,7 +126,7 @@ fn opening_row(alloc: Global, world: &World, ctrl: Ctrl) -> Result<Row, RunError
     let controllers = world.topology.controllers.as_slice();
     let controller = &controllers[ctrl.get() as usize];
     if controller.ana {
-        let gift = boxed_gift(alloc, world, ctrl, box_of(controller.page))?;
+        let gift = boxed_gift(alloc, world, ctrl, controller.page)?;
         Ok(row_of(gift, controller.state))
     } else {
         Ok(row_of(plain_gift(ctrl), controller.state))

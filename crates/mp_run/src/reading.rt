@@ -1,10 +1,11 @@
 //! What the files say, or the status with which a call ends that can't read them.
 
-ghost use Rattle.std.specs.Prelude.{◌≡◌, ◌≤◌, ℕ, Some, Ok, Err, IfOk, IfErr, All, length};
+ghost use Rattle.std.specs.Prelude.{◌≡◌, ◌≤◌, ◌++◌, ◌∷◌, [], ℕ, Some, Ok, Err, IfOk, IfErr, All, length};
 ghost use Rattle.mp_io.specs.Causes.{Rose};
 ghost use Rattle.mp_io.specs.Files.{Files};
 ghost use Rattle.mp_page.specs.Boxes.{boxes_in};
 ghost use Rattle.mp_run.specs.Outcome.{read_of, topology_or, boxes_or, script_or, fits_in, Gives, IsReadStatus, IsTextStatus};
+ghost use Rattle.mp_run.specs.Outside.{failed_by};
 ghost use Rattle.mp_script.specs.Facts as scripts;
 ghost use Rattle.mp_script.specs.Script.{script_in};
 ghost use Rattle.mp_topology.specs.Topology.{topology_in};
@@ -15,12 +16,12 @@ use mp_io::errors::ReadError;
 use mp_io::folder::Folder;
 use mp_page::{BoxError, read_boxes};
 use mp_script::errors::ScriptError;
+use mp_script::pages::Pages;
 use mp_script::reading::read_script;
 use mp_script::script::Script;
 use mp_topology::errors::TopologyError;
 use mp_topology::reading::read_topology;
 use mp_topology::topology::Topology;
-use sqlite_items::Items;
 use std::alloc::Global;
 
 /// The most bytes that a file may have.
@@ -35,9 +36,11 @@ pub(crate) fn read_file<F: Folder>(
 ) -> Result<Vec<u8>, Status>
     ensures told { (files : Files) → F.files folder.old ≡ Some files → Gives (λ bytes. bytes.items) result (read_of files file name.now) }
     ensures within { IfOk result (λ bytes. length bytes.items ≤ 16777216) }
-    ensures refused { IfErr result IsReadStatus }
+    ensures refused { IfErr result (IsReadStatus file) }
     ensures found { (files : Files) → F.files folder.old ≡ Some files → IfOk result (λ bytes. read_of files file name.now ≡ Ok bytes.items) }
-    ensures fault { (i : ℕ) → result ≡ Err (Status.ReadFault i) → (i ≡ file) × Rose (F.faults folder.old) (F.faults folder.new) }
+    ensures fault { (i : ℕ) → result ≡ Err (Status.ReadFault i) → Rose (F.faults folder.old) (F.faults folder.new) }
+    ensures asks { F.asked folder.new ≡ F.asked folder.old ++ name.now ∷ [] }
+    ensures fails { F.failed folder.new ≡ failed_by (F.failed folder.old) name.now result }
     ensures later { F.faults folder.old ≤ F.faults folder.new }
     ensures kept { F.files folder.new ≡ F.files folder.old }
 {
@@ -64,14 +67,13 @@ pub(crate) fn topology_of(alloc: Global, bytes: &[u8]) -> Result<Topology, Statu
 }
 
 /// The boxes of a file.
-pub(crate) fn boxes_of(alloc: Global, bytes: &[u8]) -> Result<Items<Items<u8>>, Status>
-    requires { length bytes.now ≤ 16777216 }
+pub(crate) fn boxes_of(alloc: Global, bytes: &[u8]) -> Result<Pages, Status>
     ensures exact { Gives (λ boxes. boxes) result (boxes_or (boxes_in bytes.now)) }
     ensures refused { IfErr result IsTextStatus }
     ensures pages { IfOk result (λ boxes. All (λ page. length page ≤ 65536) boxes) }
 {
     match read_boxes(alloc, bytes) {
-        Ok(boxes) => Ok(boxes),
+        Ok(boxes) => Ok(Pages::from_vec(boxes)),
         Err(BoxError::NoMemory) => Err(Status::NoMemory),
         Err(refusal) => Err(Status::Boxes(refusal)),
     }

@@ -14,10 +14,11 @@ ghost use Rattle.mp_run.specs.OnTurns.{AreSimpleTurns, IsOn};
 ghost use Rattle.mp_run.specs.PlainLine.{flights_of};
 ghost use Rattle.mp_run.specs.Quiet.{IsQuiet, closes};
 ghost use Rattle.mp_run.specs.Told.{IsOver, AreNumbered};
+ghost use Rattle.mp_run.specs.Notes.{AreNoted};
 ghost use Rattle.mp_run.specs.Numbers.{has_req};
 ghost use Rattle.mp_checks.specs.Marks.{has};
 ghost use Rattle.std.specs.List.{AllByRecursion};
-ghost use Rattle.mp_run.specs.PlainRun.{by_number, run_over};
+ghost use Rattle.mp_run.specs.PlainRun.{by_number, run_over, notes_over};
 ghost use Rattle.mp_run.specs.Sound.{IsSound};
 ghost use Rattle.mp_run.specs.Turns.{turns_of};
 
@@ -77,14 +78,14 @@ fn take_turns(
     requires ready { IsReady (state_of engine.old) }
     requires sound { IsSound (state_of engine.old) [] }
     requires turns { AreSimpleTurns (vec_len lanes.old) (map turn_of turns.now) }
-    requires fresh { IsDistinct (map (λ a. a.req) engine.old.requests ++ turns_submits (map turn_of turns.now)) }
+    requires fresh { IsDistinct (map (λ a. a.req) engine.old.requests.asked ++ turns_submits (map turn_of turns.now)) }
     requires quiet { IsQuiet (state_of engine.old) }
     ensures on { OnOk result (IsOn (inputs_of world.now) (map turn_of turns.now) [] (state_of engine.old) (state_of engine.new) (map events_of lanes.old.items) (map events_of lanes.new.items)) }
     ensures ready { OnOk result (IsReady (state_of engine.new)) }
     ensures sound { OnOk result (IsSound (state_of engine.new) []) }
     ensures lanes { OnOk result (vec_len lanes.new ≡ vec_len lanes.old) }
     ensures quiet { OnOk result ((lane : ℕ) → closes lane true (map turn_of turns.now) ≡ true → flights_of lane (state_of engine.new) ≡ []) }
-    ensures numbers { OnOk result (map (λ a. a.req) engine.new.requests ≡ map (λ a. a.req) engine.old.requests ++ turns_submits (map turn_of turns.now)) }
+    ensures numbers { OnOk result (map (λ a. a.req) engine.new.requests.asked ≡ map (λ a. a.req) engine.old.requests.asked ++ turns_submits (map turn_of turns.now)) }
 {
     for turn in turns {
         let notes = &mut lanes[turn.lane.get() as usize];
@@ -115,7 +116,7 @@ fn run_lanes(
 ) -> Result<Vec<LaneNotes>, RunError>
     requires ready { IsReady (state_of engine.old) }
     requires sound { IsSound (state_of engine.old) [] }
-    requires first { engine.old.requests ≡ [] }
+    requires first { engine.old.requests.asked ≡ [] }
     requires quiet { IsQuiet (state_of engine.old) }
     requires script { IsScript script.now }
     requires built { IsBuilt script.now }
@@ -124,7 +125,7 @@ fn run_lanes(
     ensures ready { OnOk result (IsReady (state_of engine.new)) }
     ensures sound { OnOk result (IsSound (state_of engine.new) []) }
     ensures quiet { OnOk result (IsQuiet (state_of engine.new)) }
-    ensures numbers { OnOk result (map (λ a. a.req) engine.new.requests ≡ turns_submits (turns_of script.now.lanes)) }
+    ensures numbers { OnOk result (map (λ a. a.req) engine.new.requests.asked ≡ turns_submits (turns_of script.now.lanes)) }
 {
     let plans = script.lanes.as_slice();
     let mut lanes = blank_lanes(alloc, plans.len())?;
@@ -148,7 +149,8 @@ fn keeper_of(plans: &[LanePlan]) -> Option<LaneId>
 
 /// The requests of a run that is over, by number.
 fn requests_of(alloc: Global, engine: Engine) -> Result<Items<Request>, RunError>
-    ensures { IfOk result (λ requests. map asked_of requests ≡ by_number engine.requests) }
+    ensures told { IfOk result (λ requests. map asked_of requests ≡ by_number engine.requests.asked) }
+    ensures noted { IfOk result (AreNoted engine.requests.noted) }
 {
     let Engine {
         rows: _,
@@ -172,7 +174,8 @@ fn gathered(
     engine: Engine,
 ) -> Result<Run, RunError>
     requires { length script.now.lanes ≤ 16 }
-    ensures { IfOk result (λ run. view_of run ≡ record { keeper = position (λ plan. plan.keeper) script.now.lanes; rows = rows; keeping = keeping; lanes = map events_of lanes.items; drain = drain.events; requests = by_number engine.requests }) }
+    ensures exact { IfOk result (λ run. view_of run ≡ record { nsid = world.now.topology.nsid; keeper = position (λ plan. plan.keeper) script.now.lanes; rows = rows; keeping = keeping; lanes = map events_of lanes.items; drain = drain.events; requests = by_number engine.requests.asked }) }
+    ensures noted { IfOk result (λ run. AreNoted engine.requests.noted run.requests) }
 {
     let requests = requests_of(alloc, engine)?;
     Ok(Run {
@@ -202,6 +205,9 @@ pub fn run(alloc: Global, world: &World, script: &Script) -> Result<Run, RunErro
     ensures asked { (req : ℕ) → IfOk result (λ run. has_req req (map asked_of run.requests) ≡ has (submits_in script.now.lanes) req) }
     ensures numbered { IfOk result (λ run. AreNumbered (map asked_of run.requests)) }
     ensures over { IfOk result (λ run. AllByRecursion IsOver (map asked_of run.requests)) }
+
+    // Each try notes its lane and what it read.
+    ensures noted { IfOk result (λ run. AreNoted (notes_over world.now script.now) run.requests) }
 {
     let mut engine = start(alloc, world)?;
     let rows = histories(alloc, &engine.rows)?;

@@ -1,12 +1,14 @@
 //! The text that each form of the words asks for.
 
-ghost use Rattle.std.specs.Prelude.{◌≡◌, ◌≢◌, ◌≤◌, ℕ, Some, Ok, Err, IfOk, IfSome, IfErr, All, length};
+ghost use Rattle.std.specs.Prelude.{◌≡◌, ◌≢◌, ◌≤◌, ◌∷◌, [], ℕ, Some, Ok, Err, IfOk, IfSome, IfErr, All, length};
 ghost use Rattle.mp_io.specs.Causes.{Rose};
 ghost use Rattle.mp_io.specs.Files.{Files};
 ghost use Rattle.mp_run.specs.World.{IsWorld};
 ghost use Rattle.mp_script.specs.Facts as scripts;
+ghost use Rattle.mp_run.specs.Forms.{serial};
 ghost use Rattle.mp_run.specs.FormsView.{names_of, told_form};
 ghost use Rattle.mp_run.specs.Outcome.{read_of, boxes_or, serial_text, serial_for, serial_in, pages_for, pages_in, text_in, own_text, Gives, AreReadBefore, IsReadStatus, IsRunStatus, IsTextStatus};
+ghost use Rattle.mp_run.specs.Outside.{files_of, status_of, Reads, Fails};
 ghost use Rattle.mp_page.specs.Boxes.{boxes_in};
 ghost use Rattle.mp_run.specs.Help.{help_text, version_text};
 
@@ -30,13 +32,8 @@ fn text_of_run(alloc: Global, world: &World, script: &Script) -> Result<Vec<u8>,
     ensures exact { IfOk result (λ text. text.items ≡ serial_text world.now script.now) }
     ensures refused { IfErr result (λ status. status ≡ Status.NoMemory) }
 {
-    let Ok(run) = run(alloc, world, script) else {
-        return Err(Status::NoMemory);
-    };
-    match run_text(alloc, &run, &world.topology, false) {
-        Ok(text) => Ok(text),
-        Err(_) => Err(Status::NoMemory),
-    }
+    let run = run(alloc, world, script).map_err(|_| Status::NoMemory)?;
+    run_text(alloc, &run, &world.topology, false).map_err(|_| Status::NoMemory)
 }
 
 /// The text of a run for the bytes of the three files. The bytes of the boxes are let go once they are read.
@@ -57,8 +54,7 @@ fn text_of_files(
     check_fits(&topology, pages.len())?;
     let script = script_of(alloc, &script, &topology, pages.len())?;
     let world = World { topology, pages };
-    let text = text_of_run(alloc, &world, &script)?;
-    Ok(text)
+    text_of_run(alloc, &world, &script)
 }
 
 /// The text of a run of the three files.
@@ -68,6 +64,8 @@ fn serial<F: Folder>(alloc: Global, folder: &mut F, names: &Names<'_>) -> Result
     ensures before { (files : Files) (i : ℕ) → F.files folder.old ≡ Some files → result ≡ Err (Status.ReadFault i) → AreReadBefore files (told_form (Form.Serial names.now)) i }
     ensures refused { IfErr result IsRunStatus }
     ensures fault { (i : ℕ) → result ≡ Err (Status.ReadFault i) → Rose (F.faults folder.old) (F.faults folder.new) }
+    ensures named { Reads (files_of (Some (serial (names_of names.now)))) (status_of result) (F.asked folder.old) (F.asked folder.new) }
+    ensures failed { Fails (files_of (Some (serial (names_of names.now)))) (status_of result) (F.failed folder.old) (F.failed folder.new) }
     ensures kept { F.files folder.new ≡ F.files folder.old }
 {
     let topology = read_file(alloc, folder, names.topology, 1)?;
@@ -84,10 +82,7 @@ fn text_of_boxes(alloc: Global, bytes: Vec<u8>, most: u32) -> Result<Vec<u8>, St
     ensures refused { IfErr result IsTextStatus }
 {
     let boxes = boxes_of(alloc, &bytes)?;
-    match page_text(alloc, boxes.as_slice(), most) {
-        Ok(text) => Ok(text),
-        Err(_) => Err(Status::NoMemory),
-    }
+    page_text(alloc, boxes.as_slice(), most).map_err(|_| Status::NoMemory)
 }
 
 /// The text of the pages of a file of boxes.
@@ -97,6 +92,8 @@ fn pages<F: Folder>(alloc: Global, folder: &mut F, name: &str, most: u32) -> Res
     ensures before { (i : ℕ) → result ≡ Err (Status.ReadFault i) → i ≡ 1 }
     ensures refused { IfErr result IsRunStatus }
     ensures fault { (i : ℕ) → result ≡ Err (Status.ReadFault i) → Rose (F.faults folder.old) (F.faults folder.new) }
+    ensures named { Reads (name.now ∷ []) (status_of result) (F.asked folder.old) (F.asked folder.new) }
+    ensures failed { Fails (name.now ∷ []) (status_of result) (F.failed folder.old) (F.failed folder.new) }
     ensures kept { F.files folder.new ≡ F.files folder.old }
 {
     let bytes = read_file(alloc, folder, name, 1)?;
@@ -108,10 +105,7 @@ fn copied(alloc: Global, text: &str) -> Result<Vec<u8>, Status>
     ensures exact { IfOk result (λ bytes. bytes.items ≡ text.now) }
     ensures refused { IfErr result (λ status. status ≡ Status.NoMemory) }
 {
-    match Vec::from_slice(alloc, text.as_bytes()) {
-        Ok(bytes) => Ok(bytes),
-        Err(_) => Err(Status::NoMemory),
-    }
+    Vec::from_slice(alloc, text.as_bytes()).map_err(|_| Status::NoMemory)
 }
 
 /// The text that a form asks for.
@@ -125,6 +119,8 @@ pub(crate) fn text_of<F: Folder>(
     ensures before { (files : Files) (i : ℕ) → F.files folder.old ≡ Some files → result ≡ Err (Status.ReadFault i) → AreReadBefore files (told_form form.now) i }
     ensures refused { IfErr result IsRunStatus }
     ensures fault { (i : ℕ) → result ≡ Err (Status.ReadFault i) → Rose (F.faults folder.old) (F.faults folder.new) }
+    ensures named { Reads (files_of (Some (told_form form.now))) (status_of result) (F.asked folder.old) (F.asked folder.new) }
+    ensures failed { Fails (files_of (Some (told_form form.now))) (status_of result) (F.failed folder.old) (F.failed folder.new) }
     ensures kept { F.files folder.new ≡ F.files folder.old }
 {
     match form {

@@ -7,6 +7,7 @@ ghost use Rattle.mp_io.specs.Files.{Files};
 ghost use Rattle.mp_run.specs.Accepted.{Accepts, IsDone, IsUnlessFree};
 ghost use Rattle.mp_run.specs.Forms.{form_of};
 ghost use Rattle.mp_run.specs.Outcome.{outcome, own_text, Answers, BeforeFault};
+ghost use Rattle.mp_run.specs.Outside.{files_of, Reads, Fails, Puts};
 ghost use Rattle.mp_run.specs.TooLong.{IsTooLong};
 
 use crate::forms::form_of;
@@ -27,7 +28,10 @@ fn answer<F: Folder, K: Sink>(
     ensures usage { (result ≡ Status.Usage) ↔ (form_of (map string_bytes words.now) ≡ None) }
     ensures read_fault { (i : ℕ) → result ≡ Status.ReadFault i → Rose (F.faults folder.old) (F.faults folder.new) }
     ensures read_before { (files : Files) (i : ℕ) → F.files folder.old ≡ Some files → result ≡ Status.ReadFault i → BeforeFault files (form_of (map string_bytes words.now)) i }
+    ensures named { Reads (files_of (form_of (map string_bytes words.now))) result (F.asked folder.old) (F.asked folder.new) }
+    ensures failed { Fails (files_of (form_of (map string_bytes words.now))) result (F.failed folder.old) (F.failed folder.new) }
     ensures write_fault { result ≡ Status.WriteFault → Rose (K.faults out.old) (K.faults out.new) }
+    ensures puts { Puts result (K.puts out.old) (K.puts out.new) }
     ensures silent { result ≢ Status.Ok → result ≢ Status.WriteFault → Keeps (K.taken out.old) (K.taken out.new) }
     ensures own { result ≡ Status.Ok → IfSome (own_text (form_of (map string_bytes words.now))) (λ text. Appends (K.taken out.old) (K.taken out.new) text) }
     ensures told { (files : Files) → F.files folder.old ≡ Some files →
@@ -56,8 +60,8 @@ fn answer<F: Folder, K: Sink>(
 /// With another status than `Ok` and `WriteFault` nothing was written.
 ///
 /// The refusals come in this order, and the first decides: the words, the reads of the files in turn, the topology,
-/// the boxes, the script, the output. The files are numbered from 1 in the order of the words. `NoMemory` may come at
-/// each of them.
+/// the boxes, the boxes that the topology needs, the script, the output. The files are numbered from 1 in the order of
+/// the words. `NoMemory` may come at each of them.
 pub fn top_plain<F: Folder, K: Sink>(
     alloc: Global,
     words: &[String],
@@ -71,6 +75,12 @@ pub fn top_plain<F: Folder, K: Sink>(
     ensures read_fault { (i : ℕ) → result ≡ Status.ReadFault i → Rose (F.faults folder.old) (F.faults folder.new) }
     ensures read_before { (files : Files) (i : ℕ) → F.files folder.old ≡ Some files → result ≡ Status.ReadFault i → BeforeFault files (form_of (map string_bytes words.now)) i }
     ensures write_fault { result ≡ Status.WriteFault → Rose (K.faults out.old) (K.faults out.new) }
+
+    // The form's files alone are read, each once and in turn, and none after the one that a status names, of which
+    // alone the read failed. The text is written by one put.
+    ensures named { Reads (files_of (form_of (map string_bytes words.now))) result (F.asked folder.old) (F.asked folder.new) }
+    ensures failed { Fails (files_of (form_of (map string_bytes words.now))) result (F.failed folder.old) (F.failed folder.new) }
+    ensures puts { Puts result (K.puts out.old) (K.puts out.new) }
 
     // A file is too long exactly where it has more bytes than a file may have, and the files before it were read.
     ensures too_long { (files : Files) (i : ℕ) → F.files folder.old ≡ Some files → result ≡ Status.TooLong i → IsTooLong files (form_of (map string_bytes words.now)) i }
@@ -91,6 +101,5 @@ pub fn top_plain<F: Folder, K: Sink>(
         (Rose (F.faults folder.old) (F.faults folder.new) → ⊥) → (Rose (K.faults out.old) (K.faults out.new) → ⊥) → IsDone result }
     ensures kept { F.files folder.new ≡ F.files folder.old }
 {
-    let status = answer(alloc, words, folder, out);
-    status
+    answer(alloc, words, folder, out)
 }

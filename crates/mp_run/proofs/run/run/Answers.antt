@@ -1,15 +1,18 @@
-use Rattle.std.proofs.Common.{subst, ◌≡◌, ap, sym, ◌∙◌, length, map, refl, arith, []}
+use Rattle.std.proofs.Common.{subst, ℕ, List, ◌≡◌, ap, sym, ◌∙◌, length, map, refl, arith, []}
 use Rattle.std.proofs.lemmas.List.{length-map}
 use Rattle.mp_record.specs.RunView.{events_of}
 use Rattle.mp_run.specs.PlainState.{State}
 use Rattle.mp_run.specs.Opening.{opening, opening_rows}
 use Rattle.mp_run.specs.Inputs.{inputs_of}
 use Rattle.mp_run.specs.Engine.{state_of}
-use Rattle.mp_run.proofs.WholeRun.{rows-length, opening_ready, opening_sound, opening_quiet, run_is, run_over_is, if_ok}
+use Rattle.mp_run.proofs.WholeRun.{rows-length, opening_ready, opening_sound, opening_quiet, run_is, run_over_is, notes_over_is, if_ok}
 use Rattle.std.specs.List.{AllByRecursion}
 use Rattle.mp_record.specs.RunView.{RunView}
 use Rattle.mp_run.specs.PlainLine.{flights_of}
-use Rattle.mp_run.specs.PlainRun.{by_number}
+use Rattle.mp_words.specs.declared.note.Note.{Note}
+use Rattle.mp_run.specs.Drain.{drain}
+use Rattle.mp_run.specs.Notes.{AreNoted}
+use Rattle.mp_run.specs.PlainRun.{by_number, notes_over}
 use Rattle.mp_run.specs.Turns.{turns_of}
 use Rattle.mp_run.specs.LaneTurns.{turns_submits}
 use Rattle.mp_script.specs.Distinct.{IsDistinct}
@@ -53,7 +56,7 @@ returns-clause-exact c =
     (λ run is. run_is i script.lanes (state_of c.run_lanes.new.engine) (state_of c.drain.new.self) (map events_of lanes.items) c.drain.new.notes.events _ on count does
     (is ∙ rw (c.in_ok-rows.ensures, c.in_ok-keeping.ensures, c.deref.ensures.value, rows, order) refl)
     ∙ sym (run_over_is world script c.requires.built.answers))
-    c.gathered.ensures
+    c.gathered.ensures.exact
 
 pub returns-clause-over : goal.returns-clause-over
 returns-clause-over c =
@@ -67,11 +70,11 @@ returns-clause-over c =
     let rests : Rests after [] asked = subst (λ (s : State). Rests s [] asked) (sym c.in_ok-drain.ensures.does.state) (drain_rests i now asked refl refl begun) in
     let distinct : IsDistinct (numbers after.requests) = rw rests.numbers (fresh_turns plans c.requires.script.distinct) in
     let all : AllByRecursion IsOver (by_number after.requests) = numbered_over after.requests (all_over after.requests distinct (none_sent after [] asked rests)) in
-    if_ok c.gathered.result (λ run is. subst (AllByRecursion IsOver) (sym (ap (λ (v : RunView). v.requests) is)) all) c.gathered.ensures
+    if_ok c.gathered.result (λ run is. subst (AllByRecursion IsOver) (sym (ap (λ (v : RunView). v.requests) is)) all) c.gathered.ensures.exact
 
 pub returns-clause-numbered : goal.returns-clause-numbered
 returns-clause-numbered c =
-    if_ok c.gathered.result (λ run is. subst AreNumbered (sym (ap (λ (v : RunView). v.requests) is)) (numbered_once c.drain.new.self.requests)) c.gathered.ensures
+    if_ok c.gathered.result (λ run is. subst AreNumbered (sym (ap (λ (v : RunView). v.requests) is)) (numbered_once c.drain.new.self.requests.asked)) c.gathered.ensures.exact
 
 pub returns-clause-asked : goal.returns-clause-asked
 returns-clause-asked c req =
@@ -84,4 +87,14 @@ returns-clause-asked c req =
     let begun : Rests now [] asked = record { sound = lanes.sound; quiet = lanes.quiet; lanes = omega (arith, lanes.ready.lanes); numbers = lanes.numbers } in
     let rests : Rests after [] asked = subst (λ (s : State). Rests s [] asked) (sym c.in_ok-drain.ensures.does.state) (drain_rests i now asked refl refl begun) in
     let same : count req (numbers after.requests) ≡ count req (submits_in plans) = ap (count req) rests.numbers ∙ turns_count req plans in
-    if_ok c.gathered.result (λ run is. ap (λ (v : RunView). has_req req v.requests) is ∙ told_has req after.requests (submits_in plans) same) c.gathered.ensures
+    if_ok c.gathered.result (λ run is. ap (λ (v : RunView). has_req req v.requests) is ∙ told_has req after.requests (submits_in plans) same) c.gathered.ensures.exact
+
+pub returns-clause-noted : goal.returns-clause-noted
+returns-clause-noted c =
+    let world = c.args.world.now in
+    let script = c.args.script.now in
+    let i = inputs_of world in
+    let on = rw c.in_ok-engine.ensures at c.in_ok-lanes.ensures.on in
+    let left : (state_of c.drain.new.self).notes ≡ notes_over world script =
+    ap (λ (s : State). s.notes) c.in_ok-drain.ensures.does.state ∙ ap (λ (s : State). (drain i s).state.notes) on.state ∙ sym (notes_over_is world script c.requires.built.answers) in
+    if_ok c.gathered.result (λ run noted. subst (λ (made : List (ℕ × Note)). AreNoted made run.requests) left noted) c.gathered.ensures.noted

@@ -33,8 +33,8 @@ take_turn-requires-clause-fresh c req has_it =
     let t = c.turn-item.result in
     let rest : List LaneTurn = drop (k + 1) turns in
     let left : drop k turns ≡ t ∷ rest = drop_more turns k t c.loop-turn-test.true ∙ ap (λ (u : LaneTurn). u ∷ rest) (sym c.turn-item.is) in
-    let fresh : IsDistinct (numbers c.loop-turn.engine.requests ++ (submit_in t.line ++ turns_submits (map turn_of rest))) = rw left at c.loop-turn.invariant.fresh in
-    fresh_in c.loop-turn.engine.requests (submit_in t.line) (turns_submits (map turn_of rest)) req fresh has_it
+    let fresh : IsDistinct (numbers c.loop-turn.engine.requests.asked ++ (submit_in t.line ++ turns_submits (map turn_of rest))) = rw left at c.loop-turn.invariant.fresh in
+    fresh_in c.loop-turn.engine.requests.asked (submit_in t.line) (turns_submits (map turn_of rest)) req fresh has_it
 
 pub loop-turn-preserved : goal.loop-turn-preserved
 loop-turn-preserved c =
@@ -47,14 +47,14 @@ loop-turn-preserved c =
     let now = state_of c.loop-turn.engine in
     let left : drop k turns ≡ t ∷ rest = drop_more turns k t c.loop-turn-test.true ∙ ap (λ (u : LaneTurn). u ∷ rest) (sym c.turn-item.is) in
     let simple : AreSimpleTurns c.loop-turn.lanes.len (turn_of t ∷ map turn_of rest) = rw left at c.loop-turn.invariant.turns in
-    let fresh : IsDistinct (numbers c.loop-turn.engine.requests ++ (submit_in t.line ++ turns_submits (map turn_of rest))) = rw left at c.loop-turn.invariant.fresh in
+    let fresh : IsDistinct (numbers c.loop-turn.engine.requests.asked ++ (submit_in t.line ++ turns_submits (map turn_of rest))) = rw left at c.loop-turn.invariant.fresh in
     let on = rw left at c.loop-turn.invariant.on in
     let lt : t.lane < length lanes = omega (arith, simple.0) in
     let old : NotesView = c.index_mut-notes.result.now in
     let was : old.events ≡ get_or (map events_of lanes) t.lane [] =
     ap events_of c.index_mut-notes.ensures.value ∙ sym (get_or-map events_of lanes c.get.result old [] (omega (arith, c.get.ensures.number))) ∙ ap (λ n. get_or (map events_of lanes) n []) c.get.ensures.number in
     let does = c.in_ok-take_turn.ensures.does in
-    let more : numbers c.take_turn.new.self.requests ≡ numbers c.loop-turn.engine.requests ++ submit_in t.line =
+    let more : numbers c.take_turn.new.self.requests.asked ≡ numbers c.loop-turn.engine.requests.asked ++ submit_in t.line =
     ap (λ (s : State). numbers s.requests) does.state ∙ numbers-turn i t.lane now t.line refl simple.1 in
     record {
       on = rw (map-set, c.get.ensures.number)
@@ -70,7 +70,7 @@ loop-turn-preserved c =
         quiet_next i t.lane lane t.line now (state_of c.take_turn.new.self) was_quiet.0 refl simple.1 c.loop-turn.invariant.sound does.state was_quiet.1,
         was_quiet.2,
       );
-      numbers = ap (λ ns. ns ++ turns_submits (map turn_of rest)) more ∙ append_assoc (numbers c.loop-turn.engine.requests) (submit_in t.line) (turns_submits (map turn_of rest)) ∙ rw left at c.loop-turn.invariant.numbers;
+      numbers = ap (λ ns. ns ++ turns_submits (map turn_of rest)) more ∙ append_assoc (numbers c.loop-turn.engine.requests.asked) (submit_in t.line) (turns_submits (map turn_of rest)) ∙ rw left at c.loop-turn.invariant.numbers;
     }
 
 pub returns-clause-quiet : goal.returns-clause-quiet
@@ -82,4 +82,4 @@ returns-clause-quiet c lane closed =
 pub returns-clause-numbers : goal.returns-clause-numbers
 returns-clause-numbers c =
     let none : drop c.loop-turn.turn-index c.args.turns.now ≡ [] = drop_all c.loop-turn.turn-index c.args.turns.now (omega arith) in
-    sym (append-nil (numbers c.loop-turn.engine.requests)) ∙ rw none at c.loop-turn.invariant.numbers
+    sym (append-nil (numbers c.loop-turn.engine.requests.asked)) ∙ rw none at c.loop-turn.invariant.numbers

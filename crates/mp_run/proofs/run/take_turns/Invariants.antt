@@ -16,8 +16,8 @@ invariant-loop-turn l = record {
   ready : IsReady (state_of l.engine);
   sound : IsSound (state_of l.engine) [];
   turns : AreSimpleTurns (vec_len l.lanes) (map turn_of (drop l.turn-index l.turns));
-  fresh : IsDistinct (map (λ a. a.req) l.engine.requests ++ turns_submits (map turn_of (drop l.turn-index l.turns)));
+  fresh : IsDistinct (map (λ a. a.req) l.engine.requests.asked ++ turns_submits (map turn_of (drop l.turn-index l.turns)));
   lanes : vec_len l.lanes ≡ vec_len l.fn.lanes;
   quiet : (lane : ℕ) → (q : Bool) × (q ≡ true → flights_of lane (state_of l.engine) ≡ []) × (closes lane q (map turn_of (drop l.turn-index l.turns)) ≡ closes lane true (map turn_of l.turns));
-  numbers : map (λ a. a.req) l.engine.requests ++ turns_submits (map turn_of (drop l.turn-index l.turns)) ≡ map (λ a. a.req) l.fn.engine.requests ++ turns_submits (map turn_of l.turns);
+  numbers : map (λ a. a.req) l.engine.requests.asked ++ turns_submits (map turn_of (drop l.turn-index l.turns)) ≡ map (λ a. a.req) l.fn.engine.requests.asked ++ turns_submits (map turn_of l.turns);
 }

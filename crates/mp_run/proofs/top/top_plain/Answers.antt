@@ -6,14 +6,14 @@ use Rattle.mp_run.proofs.top.top_plain.Goals as goal
 
 pub returns-clause-too_long : goal.returns-clause-too_long
 returns-clause-too_long g c = λ files i told is.
-    told_long files (form_of (map string_bytes c.args.words.now)) _ _ c.answer-status.result i (c.answer-status.ensures.told files told) is
+    told_long files (form_of (map string_bytes c.args.words.now)) _ _ c.answer.result i (c.answer.ensures.told files told) is
 
 pub returns-clause-long_is_refused : goal.returns-clause-long_is_refused
 returns-clause-long_is_refused g c = λ files i told long.
-    long_told files (form_of (map string_bytes c.args.words.now)) _ _ c.answer-status.result i (c.answer-status.ensures.told files told) long
+    long_told files (form_of (map string_bytes c.args.words.now)) _ _ c.answer.result i (c.answer.ensures.told files told) long
 
 pub returns-clause-complete : goal.returns-clause-complete
 returns-clause-complete g c = λ files told accepts reads writes.
-    told_done files (form_of (map string_bytes c.args.words.now)) _ _ c.answer-status.result accepts (c.answer-status.ensures.told files told)
-    (λ i is. reads (c.answer-status.ensures.read_fault i is))
-    (λ is. writes (c.answer-status.ensures.write_fault is))
+    told_done files (form_of (map string_bytes c.args.words.now)) _ _ c.answer.result accepts (c.answer.ensures.told files told)
+    (λ i is. reads (c.answer.ensures.read_fault i is))
+    (λ is. writes (c.answer.ensures.write_fault is))

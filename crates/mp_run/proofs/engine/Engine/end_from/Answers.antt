@@ -3,7 +3,7 @@ use Rattle.std.specs.Prelude.{slice_index_or}
 use Rattle.std.proofs.lemmas.List.{get_or_read}
 use Rattle.mp_words.specs.Effect.{free_row}
 use Rattle.mp_words.specs.declared.trying.TryEnd.TheVariants.{Listed, Failed}
-use Rattle.mp_policy.specs.PathTable as table
+use Rattle.mp_words.specs.PathTable as table
 use Rattle.mp_run.specs.Engine.{state_of}
 use Rattle.mp_run.proofs.Chosen.{sent_end, unsent_end}
 use Rattle.mp_run.proofs.engine.Engine.end_from.Goals as goal

@@ -20,13 +20,13 @@ loop-flight-preserved c =
     let rest : List Flight = drop (i + 1) flights in
     let now = state_of c.loop-flight.self in
     let left : drop i flights ≡ f ∷ rest = drop_more flights i f c.loop-flight-test.true ∙ ap (λ (g : Flight). g ∷ rest) (sym c.flight-item.is) in
-    let sent : AreSent c.loop-flight.self.requests (f ∷ rest) = rw left at c.loop-flight.invariant.sent in
+    let sent : AreSent c.loop-flight.self.requests.asked (f ∷ rest) = rw left at c.loop-flight.invariant.sent in
     let requests = ap (λ (s : State). s.requests) (c.in_ok-finish.ensures.does 0).state in
     record {
       on = λ lane. continues_next (each (finished [] lane) (state_of c.args.self.now) flights) (finished [] lane now f) (λ s. each (finished [] lane) s rest) (state_of c.finish.new.self) c.args.notes.now.events c.loop-flight.notes.events c.finish.new.notes.events
           (rw left at (c.loop-flight.invariant.on lane)) (c.in_ok-finish.ensures.does lane);
       ready = c.in_ok-finish.ensures.ready;
-      sent = rw requests (sent_rest c.loop-flight.self.requests f.req _ rest sent.2 sent.1);
+      sent = rw requests (sent_rest c.loop-flight.self.requests.asked f.req _ rest sent.2 sent.1);
     }
 
 pub returns-clause-does : goal.returns-clause-does

@@ -9,5 +9,5 @@ abbrev pub invariant-loop-flight : goal.invariant-loop-flight
 invariant-loop-flight l = record {
   on : (lane : ℕ) → Continues (each (finished [] lane) (state_of l.fn.self) l.flights) (each (finished [] lane) (state_of l.self) (drop l.flight-index l.flights)) l.fn.notes.events l.notes.events;
   ready : IsReady (state_of l.self);
-  sent : AreSent l.self.requests (drop l.flight-index l.flights);
+  sent : AreSent l.self.requests.asked (drop l.flight-index l.flights);
 }

@@ -41,8 +41,7 @@ loop-req-preserved c =
     record {
       on = continues_next (each (sends_and_finishes i) start requests) first (λ t. each (sends_and_finishes i) t rest) after c.args.notes.now.events c.loop-req.notes.events c.send_and_finish.new.notes.events
           (rw left at c.loop-req.invariant.on) does;
-      sent = ap (λ b. b || list_any is_sent (each (sends_and_finishes i) after rest).events) c.either-any_sent.ensures
-          ∙ or_assoc c.loop-req.any_sent c.in_ok-sent.sent (list_any is_sent (each (sends_and_finishes i) after rest).events)
+      sent = or_assoc c.loop-req.any_sent c.in_ok-sent.sent (list_any is_sent (each (sends_and_finishes i) after rest).events)
           ∙ ap (λ b. c.loop-req.any_sent || (b || list_any is_sent (each (sends_and_finishes i) after rest).events)) c.in_ok-sent.ensures.sent
           ∙ ap (λ (s : State). c.loop-req.any_sent || (list_any is_sent first.events || list_any is_sent (each (sends_and_finishes i) s rest).events)) does.state
           ∙ ap (λ b. c.loop-req.any_sent || b) (sym (list_any-append is_sent first.events (each (sends_and_finishes i) first.state rest).events))

@@ -1,0 +1,30 @@
+-- What the tries of requests noted.
+use Rattle.std.specs.Prelude.{◌≡◌, ℕ, ◌==◌, false, List, [], ◌∷◌, map, filter}
+use Rattle.mp_words.specs.declared.note.Note.{Note}
+use Rattle.mp_words.specs.Request.{asked_of}
+use Rattle.mp_words.specs.RequestView.{RequestView}
+use Rattle.mp_run.specs.Numbers.{has_req}
+use Rattle.mp_run.specs.Indexed.{AreIndexed}
+
+-- what the tries of a request noted, in order
+abbrev pub notes_of : RequestView → List Note
+notes_of request = map (λ t. t.note) request.tries
+
+-- what was noted of the request of a number
+abbrev pub notes_for : ℕ → List (ℕ × Note) → List Note
+notes_for req made = map (λ m. m.1) (filter (λ m. m.0 == req) made)
+
+-- the tries of each of these requests noted just what was noted of it
+abbrev pub AreNoted : List (ℕ × Note) → List RequestView → Type 0
+AreNoted made [] = Unit {0}
+AreNoted made (request ∷ requests) = (notes_of request ≡ notes_for request.id made) × AreNoted made requests
+
+-- The tries of these requests noted all that was noted, and nothing was noted of other requests.
+pub record IsNoted (made : List (ℕ × Note)) (requests : List RequestView) : Type 0 where
+  pub each : AreNoted made requests
+  pub others : (req : ℕ) → has_req req (map asked_of requests) ≡ false → notes_for req made ≡ []
+
+-- The index has the place of each of these requests, and their tries noted what was noted.
+pub record AreKept (index : List ℕ) (requests : List RequestView) (made : List (ℕ × Note)) : Type 0 where
+  pub indexed : AreIndexed index 0 (map asked_of requests)
+  pub noted : IsNoted made requests
