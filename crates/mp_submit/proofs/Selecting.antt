@@ -1,7 +1,9 @@
 -- What a selection by the policy tells.
-use Rattle.std.proofs.Common.{◌≡◌, ◌∙◌, ℕ, ◌<◌, Bool, true, false, List, map, take, set, get_or, unwrap_or, Option, Some, None, option_map, refl, sym, ap, subst}
+use Rattle.std.proofs.Common.{◌≡◌, ◌∙◌, ℕ, ◌<◌, ◌&&◌, nat_lt, Bool, true, false, List, map, take, set, get_or, unwrap_or, Option, Some, None, option_map, refl, sym, ap, subst, arith}
 use Rattle.std.specs.Prelude.{◌↔◌}
 use Rattle.std.specs.List.{AllByRecursion}
+use Rattle.std.specs.Option.{is_some}
+use Rattle.std.proofs.lemmas.Bool.Decides.{nat_tests}
 use Rattle.std.proofs.lemmas.List.{set-get_or}
 use Rattle.mp_words.specs.declared.row.Policy.{Policy}
 use Rattle.mp_words.specs.declared.row.Policy.TheVariants.{Numa, RoundRobin, QueueDepth}
@@ -20,8 +22,8 @@ use Rattle.mp_core.specs.Memory.{Memory, current_at, row_at, depth_at}
 use Rattle.mp_core.specs.Notes.{HasRow, HasUsable}
 use Rattle.mp_core.specs.Reads.{IsOrdered, IsNote, IsWhole, RowsRead, slot_of, row_of_place}
 use Rattle.mp_core.proofs.Reading.{place_here, has_row}
-use Rattle.mp_submit.specs.Choice.{choice_by, choice_in, policy_in, last_in, depth_in, paths_at, keeps_choice, ReadsFor}
-use Rattle.mp_submit.specs.Selects.{ReadsAll, Selects}
+use Rattle.mp_submit.specs.Choice.{choice_by, choice_in, policy_in, last_in, depth_in, paths_at, keeps_choice, looks_at_current, looks_at_depths, is_usable_at, ReadsFor}
+use Rattle.mp_submit.specs.Selects.{ReadsAll, Selects, CurrentTold, DepthsTold}
 use Rattle.mp_submit.specs.Submits.{kept_in}
 use Rattle.mp_submit.proofs.Paths.{paths_all, paths_same}
 
@@ -81,6 +83,43 @@ keeps_round Numa e = absurd cc
 keeps_round RoundRobin e = refl
 keeps_round QueueDepth e = absurd cc
 
+looks_round : (policy : Policy) → looks_at_current policy ≡ true → policy ≡ RoundRobin
+looks_round Numa e = absurd cc
+looks_round RoundRobin e = refl
+looks_round QueueDepth e = absurd cc
+
+looks_deep : (policy : Policy) → looks_at_depths policy ≡ true → policy ≡ QueueDepth
+looks_deep Numa e = absurd cc
+looks_deep RoundRobin e = absurd cc
+looks_deep QueueDepth e = refl
+
+both : (x y : Bool) → (x && y) ≡ true → (x ≡ true) × (y ≡ true)
+both true true e = (refl, refl)
+both true false e = absurd cc
+both false y e = absurd cc
+
+below : (x y : ℕ) → nat_lt x y ≡ true → x < y
+below x y e = grind (arith, nat_tests)
+
+inj_current : (x y : Option ℕ) → Some x ≡ Some y → x ≡ y
+inj_current x y e = cc
+
+inj_depth : (x y : ℕ) → Some x ≡ Some y → x ≡ y
+inj_depth x y e = cc
+
+-- what was read besides rows is that of the words
+current_told : (policy : Policy) (node : ℕ) (n : Note) (m : Memory) → ReadsFor policy n → (policy ≡ RoundRobin → n.current ≡ Some (current_at m node)) → CurrentTold node m n
+current_told policy node n m just told current is =
+    let looks : looks_at_current policy ≡ true = sym just.current ∙ ap is_some is in
+    inj_current current (current_at m node) (sym is ∙ told (looks_round policy looks))
+
+depths_told : (policy : Policy) (n : Note) (m : Memory) → ReadsFor policy n → (policy ≡ QueueDepth → (place : ℕ) → place < n.reading.len → is_usable (row_of_place n.reading place) ≡ true → get_or n.depths place None ≡ Some (depth_at m (slot_of n.reading place))) → DepthsTold m n
+depths_told policy n m just told place depth is =
+    let looks : (looks_at_depths policy && is_usable_at place n.reading) ≡ true = sym (just.depths place) ∙ ap is_some is in
+    let parts = both (looks_at_depths policy) (is_usable_at place n.reading) looks in
+    let row = both (nat_lt place n.reading.len) (is_usable (row_of_place n.reading place)) parts.1 in
+    inj_depth depth (depth_at m (slot_of n.reading place)) (sym is ∙ told (looks_deep policy parts.0) place (below place n.reading.len row.0) row.1)
+
 pub selected : (near : Near) (node : ℕ) (order : Order) (a b : Core) (s t : Section) (choice : Option ℕ) → IsOrdered s order → ReadsAll order.policy node a b s t → ReadsFor order.policy t.note → choice ≡ option_map (λ (p : Path). p.slot) (choice_in near node t.note) → (choice ≡ None) ↔ (has_usable (paths_of t.note.reading) ≡ false) → Selects near node order a b s t choice
 selected near node order a b s t choice o h just is none =
     let order_is : t.note.order ≡ Some order = ap (λ (x : Section). x.note.order) h.section ∙ ap (λ (x : Section). x.note.order) o.section in
@@ -104,4 +143,6 @@ selected near node order a b s t choice o h just is none =
           ∙ by_told order.policy near node a t.note m h.note e h.current h.depths
           ∙ ap (choice_by order.policy near node (current_at m node) (depth_at m)) (paths_told a b.view.seen t.note order m h.note h.whole h.rows len slots f e)
           ∙ ap (λ (x : Order). choice_by x.policy near node (current_at m node) (depth_at m) (paths_at m)) f);
+      told_current = λ m e. current_told order.policy node t.note m just (λ p. h.current p m e);
+      told_depths = λ m e. depths_told order.policy t.note m just (λ p. h.depths p m e);
     }

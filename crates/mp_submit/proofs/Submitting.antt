@@ -26,7 +26,7 @@ use Rattle.mp_core.specs.Reads.{Begins, IsNote, RowsRead, OrderRead, NoteRead, s
 use Rattle.mp_core.proofs.Begun.{entered_core, ordered_core, told_in, row_back, order_back, later_back}
 use Rattle.mp_submit.specs.declared.submit.Submitted.{Submitted}
 use Rattle.mp_submit.specs.Choice.{has_available, end_with, told_choice, paths_at, keeps_choice}
-use Rattle.mp_submit.specs.Selects.{Selects, DepthsRead}
+use Rattle.mp_submit.specs.Selects.{Selects, DepthsRead, CurrentTold, DepthsTold}
 use Rattle.mp_submit.specs.Submits.{Submits, Dispatches, EndsSo, IsLawfulEnd, end_on, open_try, submitted_in, chosen_in, sent_by, with_flights, flights_of, dispatched, answer_of}
 use Rattle.mp_submit.proofs.Selecting.{by_has, paths_told}
 
@@ -104,14 +104,23 @@ end_told a seen n m None choice h rows us e row none is = ap (end_on n) is ∙ a
 end_told a seen n m (Some p) choice h rows us e row none is =
     ap (end_on n) is ∙ ap (λ (r : Row). end.Sent p.slot r.version) (row_told a seen n p.slot m h rows (us p.slot is) e ∙ sym (row p refl))
 
+-- the slot that a request was sent to is the choice
+sent_within : (n : Note) (choice : Option ℕ) (slot version : ℕ) → ((s : ℕ) → choice ≡ Some s → s < 15) → end_on n choice ≡ end.Sent slot version → slot < 15
+sent_within n None slot version range is = absurd (unsent (has_available (paths_of n.reading)) is)
+  where
+    unsent : (b : Bool) → cond b end.Listed end.Failed ≡ end.Sent slot version → ⊥
+    unsent true e = cc
+    unsent false e = cc
+sent_within n (Some s) slot version range is = let same : s ≡ slot = cc in subst (λ (k : ℕ). k < 15) same (range s refl)
+
 inj_order : (x y : Order) → Some x ≡ Some y → x ≡ y
 inj_order x y e = cc
 
 pub submitted : (near : Near) (c0 c1 c2 c3 c4 : Core) (s1 s2 s3 : Section) (order : Order) (choice : Option ℕ) (keeps : Bool) (end : TryEnd) (answer : Submitted) (n : Note) (before after : RequestView) (made : Try)
-    → Begins c0 c1 s1 → LoadsOrder c1 c2 s1 s2 order → Selects near before.node order c2 c3 s2 s3 choice → keeps ≡ keeps_choice order.policy → Dispatches keeps before.node before.id c3 c4 s3 choice end answer n
+    → Begins c0 c1 s1 → LoadsOrder c1 c2 s1 s2 order → Selects near before.node order c2 c3 s2 s3 choice → keeps ≡ keeps_choice order.policy → Dispatches keeps before.node before.id c3 c4 s3 choice end answer n → ((slot : ℕ) → choice ≡ Some slot → slot < 15)
     → made ≡ open_try (length before.tries + 1) end n → after.tries ≡ before.tries ++ made ∷ [] → after.id ≡ before.id → after.node ≡ before.node
     → Submits near c0 c4 before after answer made
-submitted near c0 c1 c2 c3 c4 s1 s2 s3 order choice keeps ending answer n before after made b o se0 keeps_is d made_is tries id node =
+submitted near c0 c1 c2 c3 c4 s1 s2 s3 order choice keeps ending answer n before after made b o se0 keeps_is d range made_is tries id node =
     let C2 = ordered_core c0 s1 s2 order in
     let e2 : c2 ≡ C2 = o.after ∙ ap (looked (order_read order s2)) b.after in
     let se : Selects near before.node order C2 c3 s2 s3 choice = subst (λ (c : Core). Selects near before.node order c c3 s2 s3 choice) e2 se0 in
@@ -160,8 +169,15 @@ submitted near c0 c1 c2 c3 c4 s1 s2 s3 order choice keeps ending answer n before
       own = subst (λ (x : Note). DepthsRead c0 x) (sym note_is) se.own;
       ordered = (order, ap (λ (x : Note). x.order) note_is ∙ order_is);
       lawful = subst (λ (p : Note × TryEnd). IsLawfulEnd near before.node p.0 p.1) (λ i. (sym note_is i, sym end_is i)) (choice, se.lawful, ends_so s3.note choice ending d.ends se.usable se.none);
+      within = λ slot version e. sent_within s3.note choice slot version range (sym (end_is ∙ d.ends) ∙ e);
       told = λ m e. end_is ∙ d.ends ∙ end_told (ordered_core c0 s1 s2 order) c3.view.seen s3.note (entered_in s1.note.side m) (told_choice near before.node m) choice se.note se.rows se.usable (told_in c0 s1 s2 order m e) (told_row near before.node m)
           (λ none. paths_told (ordered_core c0 s1 s2 order) c3.view.seen s3.note order (entered_in s1.note.side m) se.note se.lawful.whole se.rows len slots (order_told m e) (told_in c0 s1 s2 order m e)) (choice_told m e);
       told_ticket = λ m e. (ap (λ (x : Note). x.side) note_is ∙ side ∙ (b.told m e).0, ap (λ (x : Note). x.ticket) note_is ∙ ticket ∙ (b.told m e).1);
       told_order = λ m e. ap (λ (x : Note). x.order) note_is ∙ order_is ∙ ap Some (order_told m e);
+      listed = λ x e.
+          let same : order ≡ x = inj_order order x (sym order_is ∙ sym (ap (λ (y : Note). y.order) note_is) ∙ e) in
+          (ap (λ (y : Note). y.reading.len) note_is ∙ len ∙ ap (λ (y : Order). y.len) same, ap (λ (y : Note). y.reading.slots) note_is ∙ slots ∙ ap (λ (y : Order). y.slots) same);
+      told_paths = λ m e. ap (λ (y : Note). paths_of y.reading) note_is ∙ paths_told (ordered_core c0 s1 s2 order) c3.view.seen s3.note order (entered_in s1.note.side m) se.note se.lawful.whole se.rows len slots (order_told m e) (told_in c0 s1 s2 order m e);
+      told_current = λ m e. subst (CurrentTold before.node m) (sym note_is) (se.told_current (entered_in s1.note.side m) (told_in c0 s1 s2 order m e));
+      told_depths = λ m e. subst (DepthsTold m) (sym note_is) (se.told_depths (entered_in s1.note.side m) (told_in c0 s1 s2 order m e));
     }

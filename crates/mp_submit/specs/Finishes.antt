@@ -1,5 +1,5 @@
 -- What a finish does.
-use Rattle.std.specs.Prelude.{◌≡◌, ℕ, ◌+◌, Bool, true, false, List, length, take, Option, None, Some}
+use Rattle.std.specs.Prelude.{◌≡◌, ℕ, ◌+◌, ◌≤◌, Bool, true, false, List, ◌++◌, length, take, replicate, Option, None, Some}
 use Rattle.std.specs.List.{last_or}
 use Rattle.mp_words.specs.declared.answers.Answer.{Answer}
 use Rattle.mp_words.specs.declared.flight.Flight.{Flight}
@@ -30,12 +30,14 @@ statuses_of answers r = hop_statuses (answer_for answers r.id) (attempts_of (ask
 abbrev pub hop_of : ℕ → RequestView → Maker
 hop_of lane r = Hop lane r.id (length r.tries)
 
--- The request's last try has these statuses, and this way back.
+-- These statuses in six places, and 0 in the places behind them.
+abbrev pub six_of : List ℕ → List ℕ
+six_of statuses = take 6 (statuses ++ replicate 6 0)
+
+-- The request's last try has these statuses, at most six, and this way back.
 pub record Ended (before after : RequestView) (statuses : List ℕ) (way : Option Back) : Type 0 where
-  pub six : List ℕ
-  pub count : ℕ
-  pub counted : take count six ≡ statuses
-  pub tries : after.tries ≡ ended_tries six count way before.tries
+  pub few : length statuses ≤ 6
+  pub tries : after.tries ≡ ended_tries (six_of statuses) (length statuses) way before.tries
   pub id : after.id ≡ before.id
   pub node : after.node ≡ before.node
 

@@ -11,7 +11,7 @@ use Rattle.mp_words.specs.PathTable.{paths_of}
 use Rattle.mp_policy.specs.Choices.{has_usable}
 use Rattle.mp_core.specs.declared.view.Section.{Section}
 use Rattle.mp_core.specs.Core.{Core, Tells}
-use Rattle.mp_core.specs.Memory.{current_at, depth_at}
+use Rattle.mp_core.specs.Memory.{Memory, current_at, depth_at}
 use Rattle.mp_core.specs.Notes.{HasUsable}
 use Rattle.mp_core.specs.Views.{flying}
 use Rattle.mp_core.specs.Reads.{IsNote, IsWhole, RowsRead, Later, loaded, row_of_place, slot_of}
@@ -24,6 +24,14 @@ with_reads n s = record s { note = record (s.note) { reading = record (s.note.re
 -- Each depth that was read is at least the number of this pass's own flights on the slot.
 abbrev pub DepthsRead : Core → Note → Type 0
 DepthsRead a n = (place depth : ℕ) → slice_index_or n.depths place None ≡ Some depth → flying (slot_of n.reading place) a.view ≤ depth
+
+-- A current path that was read is the node's on these words.
+abbrev pub CurrentTold : ℕ → Memory → Note → Type 0
+CurrentTold node m n = (current : Option ℕ) → n.current ≡ Some current → current ≡ current_at m node
+
+-- The depths that were read are those of these words.
+abbrev pub DepthsTold : Memory → Note → Type 0
+DepthsTold m n = (place depth : ℕ) → slice_index_or n.depths place None ≡ Some depth → depth ≡ depth_at m (slot_of n.reading place)
 
 -- The section, with these depths.
 abbrev pub with_depths : List (Option ℕ) → Section → Section
@@ -64,3 +72,5 @@ pub record Selects (near : Near) (node : ℕ) (order : Order) (a b : Core) (s t 
   pub none : choice ≡ None → has_usable (paths_of t.note.reading) ≡ false
   pub current : keeps_choice order.policy ≡ true → Tells a (λ m. t.note.current ≡ Some (current_at m node))
   pub told : Tells a (λ m. order ≡ m.order → choice ≡ slot_of_choice (told_choice near node m))
+  pub told_current : Tells a (λ m. CurrentTold node m t.note)
+  pub told_depths : Tells a (λ m. DepthsTold m t.note)

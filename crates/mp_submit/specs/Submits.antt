@@ -20,7 +20,7 @@ use Rattle.mp_core.specs.Reads.{NoteRead, with_section}
 use Rattle.mp_core.specs.Views.{unheld, noted}
 use Rattle.mp_submit.specs.declared.submit.Submitted.{Submitted}
 use Rattle.mp_submit.specs.declared.submit.Submitted.TheVariants as submitted
-use Rattle.mp_submit.specs.Selects.{DepthsRead}
+use Rattle.mp_submit.specs.Selects.{DepthsRead, CurrentTold, DepthsTold}
 use Rattle.mp_submit.specs.Choice.{IsLawful, has_available, end_with, told_choice, paths_at, keeps_choice}
 
 -- The flight of a request of a lane whose try ended so, if it was sent.
@@ -86,12 +86,19 @@ pub record Submits (near : Near) (a b : Core) (before after : RequestView) (answ
   pub read : NoteRead a b.view.seen made.note
   pub own : DepthsRead a made.note
   pub ordered : (order : Order) × (made.note.order ≡ Some order)
+  -- its reading lists the slots of the order that it read
+  pub listed : (order : Order) → made.note.order ≡ Some order → (made.note.reading.len ≡ order.len) × (made.note.reading.slots ≡ order.slots)
   -- the end is that of the section's reading
   pub lawful : IsLawfulEnd near before.node made.note made.end
+  -- a slot that it was sent to is one of the table's
+  pub within : (slot version : ℕ) → made.end ≡ end.Sent slot version → slot < 15
   -- where the words are told
   pub told : Tells a (λ m. made.end ≡ end_with (paths_at m) (told_choice near before.node m))
   pub told_ticket : Tells a (λ m. (made.note.side ≡ m.index) × (made.note.ticket ≡ (side_at m m.index).entries))
   pub told_order : Tells a (λ m. made.note.order ≡ Some m.order)
+  pub told_paths : Tells a (λ m. paths_of made.note.reading ≡ paths_at m)
+  pub told_current : Tells a (λ m. CurrentTold before.node m made.note)
+  pub told_depths : Tells a (λ m. DepthsTold m made.note)
 
 -- The view after a section that has selected was left: a flight more where the request was sent, and a finished note.
 abbrev pub dispatched : ℕ → ℕ → TryEnd → Note → View → View

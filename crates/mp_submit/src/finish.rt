@@ -1,6 +1,6 @@
 //! The finish of a flight.
 
-ghost use Rattle.std.specs.Prelude.{◌≡◌, ◌≤◌, true, take, None, Some};
+ghost use Rattle.std.specs.Prelude.{◌≡◌, ◌≤◌, true, length, take, None, Some};
 ghost use Rattle.std.specs.List.{last_or};
 ghost use Rattle.mp_words.specs.declared.trying.Outcome.TheVariants as outcome;
 ghost use Rattle.mp_words.specs.Request.{outcome_of, asked_of, ended_tries};
@@ -8,7 +8,7 @@ ghost use Rattle.mp_status.specs.declared.class.Class.TheVariants as kind;
 ghost use Rattle.mp_core.specs.Views.{has_flight};
 ghost use Rattle.mp_core.specs.Kinds.{Lands};
 ghost use Rattle.mp_status.specs.Hop.{class_of_hop};
-ghost use Rattle.mp_submit.specs.Finishes.{Finishes, statuses_of};
+ghost use Rattle.mp_submit.specs.Finishes.{Finishes, statuses_of, six_of};
 
 use crate::hop::{Hop, failover_by, hop_from, last_status};
 use mp_change::pending::{PendingDone, PendingEnd, drop_current, mark_pending};
@@ -62,7 +62,8 @@ fn fail_over<S: Steps, G: Gate>(
     requires closed { (S.core steps.old).view.inside ≡ None }
     requires flies { has_flight flight (S.core steps.old).view ≡ true }
     requires sent { outcome_of (last_or None (asked_of request.old).tries) ≡ outcome.Sent }
-    requires statuses { take hop.now.count hop.now.statuses ≡ statuses_of answers.now request.old }
+    requires six { hop.now.statuses ≡ six_of (statuses_of answers.now request.old) }
+    requires count { hop.now.count ≡ length (statuses_of answers.now request.old) }
     requires low { 1 ≤ hop.now.count }
     requires high { hop.now.count ≤ 6 }
     requires class { class_of_hop (statuses_of answers.now request.old) ≡ kind.Failover true }

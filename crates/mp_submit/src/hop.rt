@@ -1,11 +1,11 @@
 //! The attempts of a hop.
 
-ghost use Rattle.std.specs.Prelude.{◌≡◌, ◌≤◌, ◌+◌, false, Some, None, length, take};
+ghost use Rattle.std.specs.Prelude.{◌≡◌, ℕ, ◌≤◌, ◌+◌, false, Some, None, length, take, slice_index};
 ghost use Rattle.std.specs.List.{last_or};
 ghost use Rattle.mp_words.specs.Answers.{answer_for};
 ghost use Rattle.mp_status.specs.Disposition.{is_retry};
 ghost use Rattle.mp_status.specs.Hop.{hop_statuses, class_of_hop, ends_hop};
-ghost use Rattle.mp_submit.specs.Finishes.{class_by};
+ghost use Rattle.mp_submit.specs.Finishes.{class_by, six_of};
 
 use mp_status::class::Class;
 use mp_status::disposition::class;
@@ -36,6 +36,8 @@ fn ends_hop(status: u16, retries: u8) -> bool
 pub(crate) fn hop_from(answers: &Answers, req: ReqId, attempt: u32) -> Hop
     requires { attempt ≤ 402653185 }
     ensures statuses { take result.count result.statuses ≡ hop_statuses (answer_for answers.now req) attempt }
+    ensures six { result.statuses ≡ six_of (hop_statuses (answer_for answers.now req) attempt) }
+    ensures count { result.count ≡ length (hop_statuses (answer_for answers.now req) attempt) }
     ensures low { 1 ≤ result.count }
     ensures high { result.count ≤ 6 }
     ensures last { is_retry (class_of_hop (take result.count result.statuses)) ≡ false }
@@ -50,7 +52,8 @@ fn attempts(answers: &Answers, req: ReqId, attempt: u32) -> Hop
     ensures statuses { take result.count result.statuses ≡ hop_statuses (answer_for answers.now req) attempt }
     ensures low { 1 ≤ result.count }
     ensures high { result.count ≤ 6 }
-    ensures count { length result.statuses ≡ 6 }
+    ensures places { length result.statuses ≡ 6 }
+    ensures rest { (i : ℕ) → result.count ≤ i → slice_index result.statuses i ≡ 0 }
 {
     let mut hop = Hop {
         statuses: [0; 6],

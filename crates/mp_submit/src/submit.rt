@@ -1,6 +1,6 @@
 //! A submit of a request.
 
-ghost use Rattle.std.specs.Prelude.{◌≡◌, ◌≤◌, ◌+◌, ◌++◌, ◌∷◌, [], true, false, Some, None, length};
+ghost use Rattle.std.specs.Prelude.{◌≡◌, ◌<◌, ◌≤◌, ◌+◌, ◌++◌, ◌∷◌, [], true, false, Some, None, length};
 ghost use Rattle.std.specs.List.{last_or, list_any};
 ghost use Rattle.mp_words.specs.declared.trying.Try.{Try};
 ghost use Rattle.mp_words.specs.declared.trying.Outcome.TheVariants as outcome;
@@ -109,7 +109,8 @@ fn dispatch<S: Steps>(
     requires note { IsNote section.note }
     requires usable { (slot : _) → choice ≡ Some slot → HasUsable section.note slot }
     requires current { keeps ≡ true → Tells (S.core steps.old) (λ m. section.note.current ≡ Some (current_at m node)) }
-    ensures { Dispatches keeps node req (S.core steps.old) (S.core steps.new) section choice result.end result.answer result.note }
+    ensures done { Dispatches keeps node req (S.core steps.old) (S.core steps.new) section choice result.end result.answer result.note }
+    ensures range { (slot : _) → choice ≡ Some slot → slot < 15 }
 {
     let mut section = section;
     match choice {

@@ -1,11 +1,11 @@
 use Rattle.std.proofs.Common.{rules, ◌≡◌, ◌+◌, true, false, [], ◌∷◌, refl, ap, sym, ◌∙◌}
 use Rattle.mp_words.specs.Answers.{answer_for}
 use Rattle.mp_status.specs.Hop.{ends_hop, statuses_behind}
-use Rattle.mp_submit.proofs.Hops.{behind_none, behind_last, behind_more, last_taken, more_taken}
+use Rattle.mp_submit.proofs.Hops.{behind_none, behind_last, behind_more, last_taken, more_taken, zeros, rest_zero}
 use Rattle.mp_submit.proofs.hop.attempts.Goals as goal
 
 pub attempts-init : goal.attempts-init
-attempts-init c = (refl, refl, behind_none c.args.answers.now c.args.req c.args.attempt)
+attempts-init c = (refl, refl, behind_none c.args.answers.now c.args.req c.args.attempt, λ i past. zeros i)
 
 pub returns-then-ends_hop-clause-statuses : goal.returns-then-ends_hop-clause-statuses
 returns-then-ends_hop-clause-statuses c =
@@ -22,4 +22,5 @@ attempts-preserved c =
       search rules,
       more_taken c.attempts.hop.statuses c.attempts.k c.status-status.result (statuses_behind (answer_for c.args.answers.now c.args.req) c.args.attempt c.attempts.k) (statuses_behind (answer_for c.args.answers.now c.args.req) c.args.attempt (c.attempts.k + 1)) _
           (rw c.attempts.invariant.1 (search rules)) c.attempts.invariant.2 (behind_more c.args.answers.now c.args.req c.args.attempt c.attempts.k (search rules) goes_on ∙ ap (λ x. x ∷ statuses_behind (answer_for c.args.answers.now c.args.req) c.args.attempt (c.attempts.k + 1)) (sym is)),
+      rest_zero c.attempts.hop.statuses c.attempts.k c.status-status.result c.attempts.invariant.3,
     )

@@ -25,7 +25,8 @@ returns g c =
           c.load_order-order.ensures
           (subst (λ (n : ℕ). Selects near n order c2 c3 s2 s3 choice) c.node-node.ensures c.select-choice.ensures)
           c.keeps_choice-keeps.ensures
-          (subst (λ (p : ℕ × ℕ). Dispatches c.keeps_choice-keeps.result p.0 p.1 c3 c4 s3 choice d.end d.answer d.note) (λ i. (c.node-node.ensures i, c.id.ensures i)) c.dispatch-end.ensures)
+          (subst (λ (p : ℕ × ℕ). Dispatches c.keeps_choice-keeps.result p.0 p.1 c3 c4 s3 choice d.end d.answer d.note) (λ i. (c.node-node.ensures i, c.id.ensures i)) c.dispatch-end.ensures.done)
+          c.dispatch-end.ensures.range
           (c.open_try.ensures ∙ ap (λ h. open_try h d.end d.note) c.next-hop.ensures)
           c.tried.ensures.tries
           c.tried.ensures.id
