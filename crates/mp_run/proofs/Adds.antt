@@ -5,8 +5,8 @@ use Rattle.std.proofs.lemmas.Bool.{cases_Bool, eqb-true}
 use Rattle.mp_checks.specs.Marks.{has}
 use Rattle.mp_words.specs.declared.trying.Outcome.TheVariants as outcome
 use Rattle.mp_words.specs.Request.{Asked, outcome_of}
-use Rattle.mp_run.specs.PlainState.{State}
-use Rattle.mp_run.specs.Numbers.{has_req, asked_at, asked_or, standing}
+use Rattle.mp_legal.specs.PlainState.{State}
+use Rattle.mp_legal.specs.Numbers.{has_req, asked_at, asked_or, standing}
 use Rattle.mp_run.specs.Sound.{IsSound}
 use Rattle.mp_run.proofs.ByNumber.{find_behind}
 use Rattle.mp_run.proofs.Standing.{sent_there}

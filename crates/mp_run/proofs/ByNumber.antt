@@ -1,8 +1,8 @@
 -- Requests by number in the order submitted.
 use Rattle.std.proofs.Common.{◌≡◌, ℕ, Bool, true, false, ◌||◌, ◌==◌, List, [], ◌∷◌, ◌++◌, Some, find, refl, ap}
 use Rattle.mp_words.specs.Request.{Asked, Tried}
-use Rattle.mp_run.specs.PlainState.{with_tries}
-use Rattle.mp_run.specs.Numbers.{has_req}
+use Rattle.mp_legal.specs.PlainState.{with_tries}
+use Rattle.mp_legal.specs.Numbers.{has_req}
 
 pub or_false : (a b : Bool) → (a || b) ≡ false → (a ≡ false) × (b ≡ false)
 or_false true b e = absurd cc

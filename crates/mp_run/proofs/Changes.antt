@@ -6,9 +6,9 @@ use Rattle.std.proofs.lemmas.List.{get_or-set_other}
 use Rattle.mp_checks.specs.Marks.{has}
 use Rattle.mp_words.specs.declared.flight.Flight.{Flight}
 use Rattle.mp_words.specs.Request.{Asked, Tried, outcome_of}
-use Rattle.mp_run.specs.PlainState.{State, with_tries}
-use Rattle.mp_run.specs.PlainLine.{flights_of}
-use Rattle.mp_run.specs.Numbers.{has_req, has_flight, asked_at, standing}
+use Rattle.mp_legal.specs.PlainState.{State, with_tries}
+use Rattle.mp_legal.specs.PlainLine.{flights_of}
+use Rattle.mp_legal.specs.Numbers.{has_req, has_flight, asked_at, standing}
 use Rattle.mp_script.specs.Distinct.{IsDistinct}
 use Rattle.mp_run.specs.Sound.{AreOf}
 use Rattle.mp_run.proofs.ByNumber.{or_false}

@@ -18,12 +18,12 @@ use Rattle.mp_record.specs.declared.event.Event.TheVariants.{Try}
 use Rattle.mp_words.specs.declared.path.Path.{Path}
 use Rattle.mp_words.specs.PathTable.{is_in}
 use Rattle.mp_policy.specs.Choices.{first_nearest, nearest_choice, numa_choice, is_nearest, distance_to}
-use Rattle.mp_words.specs.declared.note.Note.{Note}
-use Rattle.mp_run.specs.PlainState.{State, paths_of, request_of, with_tries, note_of}
-use Rattle.mp_run.specs.PlainSubmit.{end_of, choice_by, after_try, noted_try, tried, submitted}
-use Rattle.mp_run.specs.Numbers.{asked_at}
+use Rattle.mp_legal.specs.TryRead.{TryRead}
+use Rattle.mp_legal.specs.PlainState.{State, paths_of, request_of, with_tries, reads_of}
+use Rattle.mp_legal.specs.PlainSubmit.{end_of, choice_by, after_try, noted_try, tried, submitted}
+use Rattle.mp_legal.specs.Numbers.{asked_at}
 use Rattle.mp_run.specs.Engine.{Does}
-use Rattle.mp_run.specs.Stepped.{Stepped}
+use Rattle.mp_legal.specs.Stepped.{Stepped}
 use Rattle.mp_run.proofs.Readings.{path_with}
 
 -- the path whose slot was answered
@@ -113,17 +113,17 @@ asked_req req (a ∷ requests) =
 
 -- where a try leaves
 tried_is : (lane : ℕ) (s : State) (a : Asked) (end : TryEnd)
-    → after_try lane (record s { requests = with_tries a.req (a.tries ++ record { end = end; statuses = []; back = None } ∷ []) s.requests; notes = s.notes ++ (a.req, note_of lane s) ∷ [] }) a end
+    → after_try lane (record s { requests = with_tries a.req (a.tries ++ record { end = end; statuses = []; back = None } ∷ []) s.requests; reads = s.reads ++ (a.req, reads_of lane s) ∷ [] }) a end
     ≡ noted_try lane (after_try lane s a end) a end
 tried_is lane s a (Sent slot version) = refl
 tried_is lane s a Listed = refl
 tried_is lane s a Failed = refl
 
 -- a try that was made and noted
-pub submit_does : (near : Near) (lane req : ℕ) (s after : State) (end : TryEnd) (hop : ℕ) (requests : List Asked) (notes : List (ℕ × Note)) (old new : List Event)
+pub submit_does : (near : Near) (lane req : ℕ) (s after : State) (end : TryEnd) (hop : ℕ) (requests : List Asked) (notes : List (ℕ × TryRead)) (old new : List Event)
     → end ≡ end_of s (choice_by s.order.policy near s (asked_at req s.requests).node) → hop ≡ length (asked_at req s.requests).tries + 1
-    → requests ≡ with_tries req ((asked_at req s.requests).tries ++ record { end = end; statuses = []; back = None } ∷ []) s.requests → notes ≡ s.notes ++ (req, note_of lane s) ∷ []
-    → ((a : Asked) → a.req ≡ req → after ≡ after_try lane (record s { requests = requests; notes = notes }) a end) → new ≡ old ++ Try req hop end ∷ []
+    → requests ≡ with_tries req ((asked_at req s.requests).tries ++ record { end = end; statuses = []; back = None } ∷ []) s.requests → notes ≡ s.reads ++ (req, reads_of lane s) ∷ []
+    → ((a : Asked) → a.req ≡ req → after ≡ after_try lane (record s { requests = requests; reads = notes }) a end) → new ≡ old ++ Try req hop end ∷ []
     → Does (submitted near lane s req) after old new
 submit_does near lane req s after end hop requests notes old new ends hops are told leaves noted =
     let a : Asked = asked_at req s.requests in
@@ -132,10 +132,10 @@ submit_does near lane req s after end hop requests notes old new ends hops are t
     ap (λ (b : Asked). tried lane s b (end_of s (choice_by s.order.policy near s b.node))) (request_is s req) ∙ ap (tried lane s a) (sym ends) in
     let made : requests ≡ with_tries a.req (a.tries ++ record { end = end; statuses = []; back = None } ∷ []) s.requests =
     are ∙ ap (λ n. with_tries n (a.tries ++ record { end = end; statuses = []; back = None } ∷ []) s.requests) (sym number) in
-    let kept : notes ≡ s.notes ++ (a.req, note_of lane s) ∷ [] = told ∙ ap (λ n. s.notes ++ (n, note_of lane s) ∷ []) (sym number) in
+    let kept : notes ≡ s.reads ++ (a.req, reads_of lane s) ∷ [] = told ∙ ap (λ n. s.reads ++ (n, reads_of lane s) ∷ []) (sym number) in
     rw step (record {
-      state = leaves a number ∙ ap (λ (rs : List Asked). after_try lane (record s { requests = rs; notes = notes }) a end) made
-          ∙ ap (λ (ns : List (ℕ × Note)). after_try lane (record s { requests = with_tries a.req (a.tries ++ record { end = end; statuses = []; back = None } ∷ []) s.requests; notes = ns }) a end) kept
+      state = leaves a number ∙ ap (λ (rs : List Asked). after_try lane (record s { requests = rs; reads = notes }) a end) made
+          ∙ ap (λ (ns : List (ℕ × TryRead)). after_try lane (record s { requests = with_tries a.req (a.tries ++ record { end = end; statuses = []; back = None } ∷ []) s.requests; reads = ns }) a end) kept
           ∙ tried_is lane s a end;
       rows = refl;
       orders = refl;

@@ -13,11 +13,11 @@ use Rattle.mp_status.specs.declared.class.Class.{Class}
 use Rattle.mp_status.specs.declared.class.Class.TheVariants.{Complete, Failover, Retry}
 use Rattle.mp_words.specs.declared.answers.Answer.{Answer}
 use Rattle.mp_status.specs.Disposition.{disposition_of}
-use Rattle.mp_run.specs.Answers.{ends_hop, hop_statuses, class_of_hop, through_first}
+use Rattle.mp_legal.specs.Answers.{ends_hop, hop_statuses, class_of_hop, through_first}
 use Rattle.mp_words.specs.Answers.{is_of, status_in, answer_for}
-use Rattle.mp_run.specs.PlainState.{State, request_of, with_tries}
-use Rattle.mp_run.specs.PlainFinish.{ended_tries, ended_try, back_of, after_back, landed, finished}
-use Rattle.mp_run.specs.Numbers.{has_req, asked_at}
+use Rattle.mp_legal.specs.PlainState.{State, request_of, with_tries}
+use Rattle.mp_legal.specs.PlainFinish.{ended_tries, ended_try, back_of, after_back, landed, finished}
+use Rattle.mp_legal.specs.Numbers.{has_req, asked_at}
 use Rattle.mp_run.proofs.Standing.{other_asked, this_asked}
 use Rattle.mp_run.proofs.Chosen.{request_is}
 

@@ -3,7 +3,7 @@ use Rattle.std.proofs.Common.{◌≡◌, ℕ, Bool, true, false, ◌||◌, ◌==
 use Rattle.std.proofs.lemmas.Bool.Decides.{nat_tests}
 use Rattle.mp_words.specs.Request.{Asked}
 use Rattle.mp_checks.specs.Marks.{has}
-use Rattle.mp_run.specs.Numbers.{has_req}
+use Rattle.mp_legal.specs.Numbers.{has_req}
 use Rattle.mp_script.specs.Distinct.{IsDistinct}
 use Rattle.mp_run.proofs.ByNumber.{or_false}
 

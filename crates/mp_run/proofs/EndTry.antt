@@ -4,7 +4,7 @@ use Rattle.mp_words.specs.declared.trying.Try.{Try}
 use Rattle.mp_words.specs.declared.trying.Back.{Back}
 use Rattle.mp_words.specs.Request.{Tried, tried_of}
 use Rattle.mp_words.specs.Request as words
-use Rattle.mp_run.specs.PlainFinish.{ended_tries}
+use Rattle.mp_legal.specs.PlainFinish.{ended_tries}
 
 -- telling the tries commutes with ending the last one
 pub tried_ended : (statuses : List ℕ) (count : ℕ) (back : Option Back) (tries : List Try) → map tried_of (words.ended_tries statuses count back tries) ≡ ended_tries (take count statuses) back (map tried_of tries)

@@ -7,13 +7,13 @@ use Rattle.mp_words.specs.declared.trying.TryEnd.{TryEnd}
 use Rattle.mp_words.specs.declared.trying.TryEnd.TheVariants.{Sent, Listed, Failed}
 use Rattle.mp_words.specs.declared.trying.Outcome.TheVariants as outcome
 use Rattle.mp_words.specs.Request.{Asked, Tried, outcome_of, outcome_after, map_last}
-use Rattle.mp_run.specs.PlainState.{State, request_of, with_tries}
-use Rattle.mp_run.specs.PlainFinish.{finished, ended_tries}
-use Rattle.mp_run.specs.PlainLine.{flights_of, flights_with}
-use Rattle.mp_run.specs.Stepped.{each}
+use Rattle.mp_legal.specs.PlainState.{State, request_of, with_tries}
+use Rattle.mp_legal.specs.PlainFinish.{finished, ended_tries}
+use Rattle.mp_legal.specs.PlainLine.{flights_of, flights_with}
+use Rattle.mp_legal.specs.Stepped.{each}
 use Rattle.mp_run.specs.Engine.{AreSent}
 use Rattle.std.specs.Option.{option_to_list}
-use Rattle.mp_run.specs.Numbers.{has_req, has_flight, asked_at, standing}
+use Rattle.mp_legal.specs.Numbers.{has_req, has_flight, asked_at, standing}
 use Rattle.mp_script.specs.Distinct.{IsDistinct}
 use Rattle.mp_run.specs.Sound.{IsSound, AreOf}
 use Rattle.mp_run.proofs.ByNumber.{or_false}

@@ -5,8 +5,8 @@ use Rattle.std.proofs.lemmas.Bool.Decides.{nat_tests}
 use Rattle.std.proofs.lemmas.List.{length-map}
 use Rattle.mp_checks.specs.Marks.{has}
 use Rattle.mp_words.specs.declared.flight.Flight.{Flight}
-use Rattle.mp_run.specs.PlainState.{State}
-use Rattle.mp_run.specs.PlainLine.{flights_of}
+use Rattle.mp_legal.specs.PlainState.{State}
+use Rattle.mp_legal.specs.PlainLine.{flights_of}
 use Rattle.mp_script.specs.Distinct.{IsDistinct}
 use Rattle.mp_run.specs.Sound.{IsSound}
 use Rattle.mp_run.proofs.ByNumber.{or_false}

@@ -8,11 +8,11 @@ use Rattle.mp_words.specs.declared.answers.Answer.{Answer}
 use Rattle.mp_script.specs.declared.script.Line.{Line}
 use Rattle.mp_script.specs.declared.script.Line.TheVariants as line
 use Rattle.mp_script.specs.declared.script.Numbered1.{Numbered1}
-use Rattle.mp_run.specs.PlainState.{State}
-use Rattle.mp_run.specs.PlainFinish.{finished}
-use Rattle.mp_run.specs.PlainCall.{Inputs, finish, call}
-use Rattle.mp_run.specs.PlainLine.{turn_step, flights_of, flights_with, finishes, runs}
-use Rattle.mp_run.specs.Stepped.{Stepped, Place, says, joined, each}
+use Rattle.mp_legal.specs.PlainState.{State}
+use Rattle.mp_legal.specs.PlainFinish.{finished}
+use Rattle.mp_legal.specs.PlainCall.{Inputs, finish, call}
+use Rattle.mp_legal.specs.PlainLine.{turn_step, flights_of, flights_with, finishes, runs}
+use Rattle.mp_legal.specs.Stepped.{Stepped, Place, says, joined, each}
 use Rattle.mp_run.specs.Engine.{Does, finishes_line}
 use Rattle.mp_run.proofs.Steps.{does_both}
 

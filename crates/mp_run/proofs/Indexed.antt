@@ -7,9 +7,9 @@ use Rattle.mp_words.specs.declared.flight.Flight.{Flight}
 use Rattle.std.proofs.lemmas.List.{length-map, get_or-map, map-set}
 use Rattle.mp_words.specs.Request.{Asked, Tried, asked_of}
 use Rattle.mp_words.specs.RequestView.{RequestView}
-use Rattle.mp_run.specs.PlainState.{with_tries}
-use Rattle.mp_run.specs.PlainLine.{flights_with}
-use Rattle.mp_run.specs.Numbers.{has_req, asked_at, has_flight}
+use Rattle.mp_legal.specs.PlainState.{with_tries}
+use Rattle.mp_legal.specs.PlainLine.{flights_with}
+use Rattle.mp_legal.specs.Numbers.{has_req, asked_at, has_flight}
 use Rattle.mp_run.specs.Indexed.{AreIndexed, ArePlaced}
 use Rattle.mp_run.specs.Flying.{flying, flight_of}
 use Rattle.mp_run.proofs.ByNumber.{with_tries_other, or_false}

@@ -12,16 +12,16 @@ use Rattle.mp_words.specs.declared.trying.TryEnd.{TryEnd}
 use Rattle.mp_words.specs.declared.trying.TryEnd.TheVariants.{Sent, Listed, Failed}
 use Rattle.mp_words.specs.Request.{Asked, Tried, attempts_of}
 use Rattle.mp_words.specs.declared.answers.Answer.{Answer}
-use Rattle.mp_run.specs.Answers.{hop_statuses, class_of_hop}
-use Rattle.mp_run.specs.PlainState.{State, request_of, with_tries}
-use Rattle.mp_run.specs.PlainFinish.{ended_tries, back_of, landed, finished}
-use Rattle.mp_run.specs.Numbers.{has_req, asked_at}
+use Rattle.mp_legal.specs.Answers.{hop_statuses, class_of_hop}
+use Rattle.mp_legal.specs.PlainState.{State, request_of, with_tries}
+use Rattle.mp_legal.specs.PlainFinish.{ended_tries, back_of, landed, finished}
+use Rattle.mp_legal.specs.Numbers.{has_req, asked_at}
 use Rattle.mp_run.proofs.Standing.{other_asked, this_asked}
-use Rattle.mp_run.specs.PlainCall.{Inputs, finish, call}
-use Rattle.mp_run.specs.PlainSubmit.{tried, end_of, choice_by}
-use Rattle.mp_run.specs.PlainLine.{flights_of}
-use Rattle.mp_run.specs.Stepped.{Stepped, joined, tells, and_then, each}
-use Rattle.mp_run.specs.Drain.{drain_place, finishes_all, sends_and_finishes, is_sent, round, rounds_from, rounds, most_rounds}
+use Rattle.mp_legal.specs.PlainCall.{Inputs, finish, call}
+use Rattle.mp_legal.specs.PlainSubmit.{tried, end_of, choice_by}
+use Rattle.mp_legal.specs.PlainLine.{flights_of}
+use Rattle.mp_legal.specs.Stepped.{Stepped, joined, tells, and_then, each}
+use Rattle.mp_legal.specs.Drain.{drain_place, finishes_all, sends_and_finishes, is_sent, round, rounds_from, rounds, most_rounds}
 use Rattle.mp_run.specs.LastRound.{last_round}
 use Rattle.mp_run.proofs.Changes.{or_true, has_with_tries, has_middle, has_between}
 use Rattle.mp_record.specs.declared.event.Event.TheVariants.{Try}

@@ -16,6 +16,7 @@ pub mod FinishLines
 pub mod SubmitLines
 pub mod TurnLists
 pub mod OpeningSlots
+pub mod FirstMemory
 pub mod OnTurns
 pub mod Rounds
 pub mod TurnFacts

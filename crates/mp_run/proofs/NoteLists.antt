@@ -7,14 +7,15 @@ use Rattle.std.specs.declared.cmp.Ordering.TheVariants.{Less, Equal, Greater}
 use Rattle.std.specs.BTreeMap.{insert_entry}
 use Rattle.std.specs.Ordering.{nat_cmp, match_ordering}
 use Rattle.mp_words.specs.declared.note.Note.{Note}
+use Rattle.mp_legal.specs.TryRead.{TryRead, read_of}
 use Rattle.mp_words.specs.declared.trying.Back.{Back}
 use Rattle.mp_words.specs.declared.trying.Try.{Try}
 use Rattle.mp_words.specs.Request.{Asked, asked_of}
 use Rattle.mp_words.specs.Request as words
 use Rattle.mp_words.specs.RequestView.{RequestView}
 use Rattle.mp_run.specs.Indexed.{AreIndexed}
-use Rattle.mp_run.specs.Notes.{notes_of, notes_for, AreNoted, IsNoted}
-use Rattle.mp_run.specs.Numbers.{has_req}
+use Rattle.mp_run.specs.Notes.{notes_of, notes_for, reads_in, AreNoted, IsNoted}
+use Rattle.mp_legal.specs.Numbers.{has_req}
 use Rattle.mp_run.proofs.ByNumber.{or_false}
 use Rattle.mp_run.proofs.Indexed.{none_later}
 
@@ -26,25 +27,30 @@ differ m n off =
       | inr off2 ↦ off2
     ]
 
+-- what one try more reads
+pub reads_more : (made : List (ℕ × Note)) (req : ℕ) (note : Note) → reads_in (made ++ (req, note) ∷ []) ≡ reads_in made ++ (req, read_of note) ∷ []
+reads_more [] req note = refl
+reads_more (m ∷ made) req note = ap (λ (rs : List (ℕ × TryRead)). (m.0, read_of m.1) ∷ rs) (reads_more made req note)
+
 -- one note more of a request
-notes_own : (req : ℕ) (note : Note) (made : List (ℕ × Note)) → notes_for req (made ++ (req, note) ∷ []) ≡ notes_for req made ++ note ∷ []
+notes_own : (req : ℕ) (note : TryRead) (made : List (ℕ × TryRead)) → notes_for req (made ++ (req, note) ∷ []) ≡ notes_for req made ++ note ∷ []
 notes_own req note [] = rw (eq-eqb req req refl) refl
 notes_own req note (m ∷ made) =
     elim (cases_Bool (m.0 == req)) [
-      | inl on ↦ rw on (ap (λ (ns : List Note). m.1 ∷ ns) (notes_own req note made))
+      | inl on ↦ rw on (ap (λ (ns : List TryRead). m.1 ∷ ns) (notes_own req note made))
       | inr off ↦ rw off (notes_own req note made)
     ]
 
 -- one note more of another request
-notes_other : (req other : ℕ) (note : Note) (made : List (ℕ × Note)) → (other == req) ≡ false → notes_for req (made ++ (other, note) ∷ []) ≡ notes_for req made
+notes_other : (req other : ℕ) (note : TryRead) (made : List (ℕ × TryRead)) → (other == req) ≡ false → notes_for req (made ++ (other, note) ∷ []) ≡ notes_for req made
 notes_other req other note [] apart = rw apart refl
 notes_other req other note (m ∷ made) apart =
     elim (cases_Bool (m.0 == req)) [
-      | inl on ↦ rw on (ap (λ (ns : List Note). m.1 ∷ ns) (notes_other req other note made apart))
+      | inl on ↦ rw on (ap (λ (ns : List TryRead). m.1 ∷ ns) (notes_other req other note made apart))
       | inr off ↦ rw off (notes_other req other note made apart)
     ]
 
-noted_other : (other : ℕ) (note : Note) (made : List (ℕ × Note)) (all : List RequestView) → has_req other (map asked_of all) ≡ false → AreNoted made all → AreNoted (made ++ (other, note) ∷ []) all
+noted_other : (other : ℕ) (note : TryRead) (made : List (ℕ × TryRead)) (all : List RequestView) → has_req other (map asked_of all) ≡ false → AreNoted made all → AreNoted (made ++ (other, note) ∷ []) all
 noted_other other note made [] none noted = tt
 noted_other other note made (r ∷ all) none noted =
     let parts = or_false (r.id == other) (has_req other (map asked_of all)) none in
@@ -58,7 +64,7 @@ index_at index place zero (r ∷ all) old indexed lt is = let at : slice_index i
 index_at index place (suc n) (r ∷ all) old indexed lt is = let more = index_at index (suc place) n all old indexed.1 (omega arith) is in omega (arith, more)
 
 -- a try of the request at a place is noted
-noted_tried : (index : List ℕ) (place n : ℕ) (all : List RequestView) (made : List (ℕ × Note)) (old new : RequestView) (note : Note)
+noted_tried : (index : List ℕ) (place n : ℕ) (all : List RequestView) (made : List (ℕ × TryRead)) (old new : RequestView) (note : TryRead)
     → AreIndexed index place (map asked_of all) → n < length all → old ≡ get_or all n old → new.id ≡ old.id → notes_of new ≡ notes_of old ++ note ∷ [] → AreNoted made all
     → AreNoted (made ++ (old.id, note) ∷ []) (set all n new)
 noted_tried index place n [] made old new note indexed lt is same told noted = absurd (omega arith)
@@ -66,7 +72,7 @@ noted_tried index place zero (r ∷ all) made old new note indexed lt is same to
     let here : slice_index index old.id ≡ place + 0 = index_at index place 0 (r ∷ all) old indexed lt is in
     let others : has_req old.id (map asked_of all) ≡ false = none_later index (suc place) old.id (map asked_of all) indexed.1 (omega (arith, here)) in
     let was : notes_of old ≡ notes_for old.id made = rw is noted.0 in (
-      told ∙ ap (λ (ns : List Note). ns ++ note ∷ []) was ∙ sym (notes_own old.id note made) ∙ ap (λ k. notes_for k (made ++ (old.id, note) ∷ [])) (sym same),
+      told ∙ ap (λ (ns : List TryRead). ns ++ note ∷ []) was ∙ sym (notes_own old.id note made) ∙ ap (λ k. notes_for k (made ++ (old.id, note) ∷ [])) (sym same),
       noted_other old.id note made all others noted.1,
     )
 noted_tried index place (suc n) (r ∷ all) made old new note indexed lt is same told noted =
@@ -79,7 +85,7 @@ noted_tried index place (suc n) (r ∷ all) made old new note indexed lt is same
     (noted.0 ∙ sym (notes_other r.id old.id note made apart), noted_tried index (suc place) n all made old new note indexed.1 (omega arith) is same told noted.1)
 
 -- the request at a place keeps its number and its notes
-noted_kept : (n : ℕ) (all : List RequestView) (made : List (ℕ × Note)) (old new : RequestView) → old ≡ get_or all n old → new.id ≡ old.id → notes_of new ≡ notes_of old → AreNoted made all
+noted_kept : (n : ℕ) (all : List RequestView) (made : List (ℕ × TryRead)) (old new : RequestView) → old ≡ get_or all n old → new.id ≡ old.id → notes_of new ≡ notes_of old → AreNoted made all
     → AreNoted made (set all n new)
 noted_kept n [] made old new is same told noted = tt
 noted_kept zero (r ∷ all) made old new is same told noted =
@@ -102,7 +108,7 @@ has_own (suc n) (r ∷ all) old lt is = later (r.id == old.id) (has_req old.id (
     later false b e = e
 
 -- a try of the request at a place is noted, and no other
-pub is_noted_tried : (index : List ℕ) (n : ℕ) (all : List RequestView) (made : List (ℕ × Note)) (old new : RequestView) (note : Note)
+pub is_noted_tried : (index : List ℕ) (n : ℕ) (all : List RequestView) (made : List (ℕ × TryRead)) (old new : RequestView) (note : TryRead)
     → AreIndexed index 0 (map asked_of all) → n < length all → old ≡ get_or all n old → new.id ≡ old.id → notes_of new ≡ notes_of old ++ note ∷ [] → IsNoted made all
     → IsNoted (made ++ (old.id, note) ∷ []) (set all n new)
 is_noted_tried index n all made old new note indexed lt is same told noted = record {
@@ -118,7 +124,7 @@ is_noted_tried index n all made old new note indexed lt is same told noted = rec
         ]
 
 -- the request at a place keeps its number and its notes
-pub is_noted_kept : (n : ℕ) (all : List RequestView) (made : List (ℕ × Note)) (old new : RequestView) → old ≡ get_or all n old → new.id ≡ old.id → notes_of new ≡ notes_of old → IsNoted made all
+pub is_noted_kept : (n : ℕ) (all : List RequestView) (made : List (ℕ × TryRead)) (old new : RequestView) → old ≡ get_or all n old → new.id ≡ old.id → notes_of new ≡ notes_of old → IsNoted made all
     → IsNoted made (set all n new)
 is_noted_kept n all made old new is same told noted = record {
   each = noted_kept n all made old new is same told noted.each;
@@ -126,7 +132,7 @@ is_noted_kept n all made old new is same told noted = record {
 }
 
 -- a request without tries is added
-pub is_noted_more : (all : List RequestView) (made : List (ℕ × Note)) (new : RequestView) → has_req new.id (map asked_of all) ≡ false → notes_of new ≡ [] → IsNoted made all → IsNoted made (all ++ new ∷ [])
+pub is_noted_more : (all : List RequestView) (made : List (ℕ × TryRead)) (new : RequestView) → has_req new.id (map asked_of all) ≡ false → notes_of new ≡ [] → IsNoted made all → IsNoted made (all ++ new ∷ [])
 is_noted_more all made new fresh none noted = record {
   each = more all noted.each;
   others = λ req out. noted.others req (front req all out);
@@ -141,24 +147,24 @@ is_noted_more all made new fresh none noted = record {
     front req (r ∷ rs) out = let parts = or_false (r.id == req) (has_req req (map asked_of (rs ++ new ∷ []))) out in rw (parts.0, front req rs parts.1) refl
 
 -- the end of the last try changes no note
-pub notes-ended : (statuses : List ℕ) (count : ℕ) (back : Option Back) (tries : List Try) → map (λ t. t.note) (words.ended_tries statuses count back tries) ≡ map (λ t. t.note) tries
+pub notes-ended : (statuses : List ℕ) (count : ℕ) (back : Option Back) (tries : List Try) → map (λ t. read_of t.note) (words.ended_tries statuses count back tries) ≡ map (λ t. read_of t.note) tries
 notes-ended statuses count back [] = refl
 notes-ended statuses count back (t ∷ []) = refl
-notes-ended statuses count back (t ∷ u ∷ ts) = ap (λ (ns : List Note). t.note ∷ ns) (notes-ended statuses count back (u ∷ ts))
+notes-ended statuses count back (t ∷ u ∷ ts) = ap (λ (ns : List TryRead). read_of t.note ∷ ns) (notes-ended statuses count back (u ∷ ts))
 
 -- the requests of a list and one more
-pub noted_parts : (made : List (ℕ × Note)) (all : List RequestView) (r : RequestView) → AreNoted made (all ++ r ∷ []) → AreNoted made all × (notes_of r ≡ notes_for r.id made)
+pub noted_parts : (made : List (ℕ × TryRead)) (all : List RequestView) (r : RequestView) → AreNoted made (all ++ r ∷ []) → AreNoted made all × (notes_of r ≡ notes_for r.id made)
 noted_parts made [] r noted = (tt, noted.0)
 noted_parts made (q ∷ all) r noted = let rest = noted_parts made all r noted.1 in ((noted.0, rest.0), rest.1)
 
-noted_by : (made : List (ℕ × Note)) (o : Ordering) (e : ℕ × RequestView) (es more : List (ℕ × RequestView)) (k : ℕ) (r : RequestView) → notes_of r ≡ notes_for r.id made
+noted_by : (made : List (ℕ × TryRead)) (o : Ordering) (e : ℕ × RequestView) (es more : List (ℕ × RequestView)) (k : ℕ) (r : RequestView) → notes_of r ≡ notes_for r.id made
     → AreNoted made (map (λ entry. entry.1) (e ∷ es)) → AreNoted made (map (λ entry. entry.1) more) → AreNoted made (map (λ entry. entry.1) (match_ordering o ((k, r) ∷ e ∷ es) ((e.0, r) ∷ es) (e ∷ more)))
 noted_by made Less e es more k r own all rest = (own, all)
 noted_by made Equal e es more k r own all rest = (own, all.1)
 noted_by made Greater e es more k r own all rest = (all.0, rest)
 
 -- a request put at its number
-pub noted_insert : (made : List (ℕ × Note)) (es : List (ℕ × RequestView)) (k : ℕ) (r : RequestView) → notes_of r ≡ notes_for r.id made → AreNoted made (map (λ entry. entry.1) es)
+pub noted_insert : (made : List (ℕ × TryRead)) (es : List (ℕ × RequestView)) (k : ℕ) (r : RequestView) → notes_of r ≡ notes_for r.id made → AreNoted made (map (λ entry. entry.1) es)
     → AreNoted made (map (λ entry. entry.1) (insert_entry nat_cmp es k r))
 noted_insert made [] k r own all = (own, tt)
 noted_insert made (e ∷ es) k r own all = noted_by made (nat_cmp k e.0) e es (insert_entry nat_cmp es k r) k r own all (noted_insert made es k r own all.1)

@@ -15,15 +15,15 @@ use Rattle.mp_record.specs.declared.event.Event.{Event}
 use Rattle.mp_script.specs.declared.script.Line.{Line}
 use Rattle.mp_script.specs.declared.script.Line.TheVariants as line
 use Rattle.mp_script.specs.declared.script.Numbered1.{Numbered1}
-use Rattle.mp_run.specs.PlainState.{State, with_tries, request_of}
-use Rattle.mp_run.specs.PlainCall.{Inputs}
-use Rattle.mp_run.specs.PlainSubmit.{submitted, tried, end_of, choice_by}
-use Rattle.mp_run.specs.PlainFinish.{finished}
-use Rattle.mp_run.specs.PlainLine.{turn_step, flights_of, flights_with}
-use Rattle.mp_run.specs.PlainRun.{Taken, taken, state_after, events_in}
-use Rattle.mp_run.specs.Stepped.{Stepped, each}
-use Rattle.mp_run.specs.Turns.{Turn}
-use Rattle.mp_run.specs.Numbers.{has_req}
+use Rattle.mp_legal.specs.PlainState.{State, with_tries, request_of}
+use Rattle.mp_legal.specs.PlainCall.{Inputs}
+use Rattle.mp_legal.specs.PlainSubmit.{submitted, tried, end_of, choice_by}
+use Rattle.mp_legal.specs.PlainFinish.{finished}
+use Rattle.mp_legal.specs.PlainLine.{turn_step, flights_of, flights_with}
+use Rattle.mp_legal.specs.PlainRun.{Taken, taken, state_after, events_in}
+use Rattle.mp_legal.specs.Stepped.{Stepped, each}
+use Rattle.mp_legal.specs.Turns.{Turn}
+use Rattle.mp_legal.specs.Numbers.{has_req}
 use Rattle.mp_script.specs.Distinct.{IsDistinct}
 use Rattle.mp_run.specs.Engine.{Does, finishes_line}
 use Rattle.mp_run.specs.LaneTurns.{submit_in, IsSimpleTurn}

@@ -4,13 +4,13 @@ use Rattle.std.specs.List.{list_any}
 use Rattle.std.proofs.lemmas.Bool.{cases_Bool}
 use Rattle.mp_record.specs.declared.event.Said.TheVariants as said
 use Rattle.mp_script.specs.declared.script.Numbered1.{Numbered1}
-use Rattle.mp_run.specs.PlainState.{State}
-use Rattle.mp_run.specs.PlainCall.{Inputs, Call, submit, finish, reap, call}
-use Rattle.mp_run.specs.PlainKeep.{reaped}
-use Rattle.mp_run.specs.PlainLine.{Start, turn_start, place_of, opens, runs, turn_step, flights_of}
-use Rattle.mp_run.specs.Stepped.{Stepped, Place, tells, says, joined, and_then, each}
-use Rattle.mp_run.specs.Drain.{drain_place, sends_and_finishes, finishes_all, round, is_sent, rounds_from, most_rounds, rounds, drain}
-use Rattle.mp_run.specs.Units.{needs, Paid, paid_then, each_paid, pay_call, settled, pay_line, pay_turn, pay_request, pay_round, pay_rounds, pay_drain}
+use Rattle.mp_legal.specs.PlainState.{State}
+use Rattle.mp_legal.specs.PlainCall.{Inputs, Call, submit, finish, reap, call}
+use Rattle.mp_legal.specs.PlainKeep.{reaped}
+use Rattle.mp_legal.specs.PlainLine.{Start, turn_start, place_of, opens, runs, turn_step, flights_of}
+use Rattle.mp_legal.specs.Stepped.{Stepped, Place, tells, says, joined, and_then, each}
+use Rattle.mp_legal.specs.Drain.{drain_place, sends_and_finishes, finishes_all, round, is_sent, rounds_from, most_rounds, rounds, drain}
+use Rattle.mp_legal.specs.Units.{needs, Paid, paid_then, each_paid, pay_call, settled, pay_line, pay_turn, pay_request, pay_round, pay_rounds, pay_drain}
 
 -- where units are left, what was paid for is this step
 abbrev pub Pays : Paid → Stepped → Type 0

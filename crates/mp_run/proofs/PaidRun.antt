@@ -8,15 +8,15 @@ use Rattle.std.proofs.lemmas.List.{get_or-set_same, get_or-set_other, length-set
 use Rattle.mp_record.specs.RunView.{RunView}
 use Rattle.mp_script.specs.declared.script.LanePlan.{LanePlan}
 use Rattle.mp_script.specs.declared.script.Numbered1.{Numbered1}
-use Rattle.mp_run.specs.PlainState.{State}
-use Rattle.mp_run.specs.PlainCall.{Inputs}
-use Rattle.mp_run.specs.PlainLine.{turn_step}
-use Rattle.mp_run.specs.PlainRun.{Taken, taken, state_after, run_of, plain_run}
-use Rattle.mp_run.specs.Stepped.{Stepped}
-use Rattle.mp_run.specs.Opening.{opening}
-use Rattle.mp_run.specs.Drain.{drain}
-use Rattle.mp_run.specs.Turns.{Turn, turn_in, line_turn, round_of, longest, turns_of}
-use Rattle.mp_run.specs.Units.{Paid, pay_turn, Paying, pay_turns, pay_drain, run_drained, run_paid, serial_run}
+use Rattle.mp_legal.specs.PlainState.{State}
+use Rattle.mp_legal.specs.PlainCall.{Inputs}
+use Rattle.mp_legal.specs.PlainLine.{turn_step}
+use Rattle.mp_legal.specs.PlainRun.{Taken, taken, state_after, run_of, plain_run}
+use Rattle.mp_legal.specs.Stepped.{Stepped}
+use Rattle.mp_legal.specs.Opening.{opening}
+use Rattle.mp_legal.specs.Drain.{drain}
+use Rattle.mp_legal.specs.Turns.{Turn, turn_in, line_turn, round_of, longest, turns_of}
+use Rattle.mp_legal.specs.Units.{Paid, pay_turn, Paying, pay_turns, pay_drain, run_drained, run_paid, serial_run}
 use Rattle.mp_run.proofs.Paid.{Pays, pays_turn, pays_drain}
 
 -- each turn is of one of so many lanes

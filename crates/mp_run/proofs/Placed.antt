@@ -7,7 +7,7 @@ use Rattle.std.specs.Ordering.{nat_cmp, match_ordering}
 use Rattle.std.proofs.lemmas.List.Sums.{fold-append}
 use Rattle.mp_words.specs.Request.{Asked, asked_of}
 use Rattle.mp_words.specs.RequestView.{RequestView}
-use Rattle.mp_run.specs.PlainRun.{entries_of}
+use Rattle.mp_legal.specs.PlainRun.{entries_of}
 use Rattle.mp_run.specs.Gathered.{told}
 
 -- telling an entry commutes with putting it at its place

@@ -15,16 +15,16 @@ use Rattle.mp_script.specs.declared.script.LanePlan.{LanePlan}
 use Rattle.mp_script.specs.declared.script.Line.{Line}
 use Rattle.mp_script.specs.declared.script.Line.TheVariants as line
 use Rattle.mp_script.specs.declared.script.Numbered1.{Numbered1}
-use Rattle.mp_run.specs.PlainState.{State, request_of}
-use Rattle.mp_run.specs.PlainCall.{Inputs}
-use Rattle.mp_run.specs.PlainSubmit.{submitted, tried, end_of, choice_by}
-use Rattle.mp_run.specs.PlainFinish.{finished}
-use Rattle.mp_run.specs.PlainLine.{turn_step, flights_of, flights_with}
-use Rattle.mp_run.specs.PlainKeep.{reaped}
-use Rattle.mp_run.specs.Stepped.{Stepped, joined, tells, and_then, each}
-use Rattle.mp_run.specs.Drain.{drain_place, sends_and_finishes, is_sent, round, rounds_from, rounds, most_rounds, drain}
-use Rattle.mp_run.specs.Turns.{Turn, turn_in, line_turn, longest, turns_of}
-use Rattle.mp_run.specs.Numbers.{has_flight, standing}
+use Rattle.mp_legal.specs.PlainState.{State, request_of}
+use Rattle.mp_legal.specs.PlainCall.{Inputs}
+use Rattle.mp_legal.specs.PlainSubmit.{submitted, tried, end_of, choice_by}
+use Rattle.mp_legal.specs.PlainFinish.{finished}
+use Rattle.mp_legal.specs.PlainLine.{turn_step, flights_of, flights_with}
+use Rattle.mp_legal.specs.PlainKeep.{reaped}
+use Rattle.mp_legal.specs.Stepped.{Stepped, joined, tells, and_then, each}
+use Rattle.mp_legal.specs.Drain.{drain_place, sends_and_finishes, is_sent, round, rounds_from, rounds, most_rounds, drain}
+use Rattle.mp_legal.specs.Turns.{Turn, turn_in, line_turn, longest, turns_of}
+use Rattle.mp_legal.specs.Numbers.{has_flight, standing}
 use Rattle.mp_run.specs.Sound.{IsSound, AreOf}
 use Rattle.mp_run.specs.LaneTurns.{IsSimpleTurn}
 use Rattle.mp_script.specs.Facts.{IsSimple}

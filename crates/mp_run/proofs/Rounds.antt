@@ -5,14 +5,14 @@ use Rattle.std.proofs.lemmas.Bool.{cases_Bool}
 use Rattle.std.proofs.lemmas.List.Folds.{list_any-append}
 use Rattle.mp_words.specs.declared.flight.Flight.{Flight}
 use Rattle.mp_record.specs.declared.event.Event.{Event}
-use Rattle.mp_run.specs.PlainState.{State}
-use Rattle.mp_run.specs.PlainCall.{Inputs}
-use Rattle.mp_run.specs.PlainSubmit.{submitted}
-use Rattle.mp_run.specs.PlainFinish.{finished}
-use Rattle.mp_run.specs.PlainLine.{flights_of}
-use Rattle.mp_run.specs.Stepped.{Stepped, tells, joined, and_then, each}
-use Rattle.mp_run.specs.Drain.{drain_place, sends_and_finishes, is_sent, round, rounds_from, rounds, most_rounds, drain}
-use Rattle.mp_run.specs.PlainKeep.{reaped}
+use Rattle.mp_legal.specs.PlainState.{State}
+use Rattle.mp_legal.specs.PlainCall.{Inputs}
+use Rattle.mp_legal.specs.PlainSubmit.{submitted}
+use Rattle.mp_legal.specs.PlainFinish.{finished}
+use Rattle.mp_legal.specs.PlainLine.{flights_of}
+use Rattle.mp_legal.specs.Stepped.{Stepped, tells, joined, and_then, each}
+use Rattle.mp_legal.specs.Drain.{drain_place, sends_and_finishes, is_sent, round, rounds_from, rounds, most_rounds, drain}
+use Rattle.mp_legal.specs.PlainKeep.{reaped}
 use Rattle.mp_run.specs.Engine.{Does}
 use Rattle.mp_run.proofs.Steps.{Continues, continues_next, continues_last, does_both}
 use Rattle.mp_run.specs.Sound.{IsSound}

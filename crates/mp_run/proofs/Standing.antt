@@ -6,8 +6,8 @@ use Rattle.std.proofs.lemmas.Bool.Decides.{nat_tests}
 use Rattle.mp_words.specs.declared.flight.Flight.{Flight}
 use Rattle.mp_words.specs.declared.trying.Outcome.TheVariants.{Sent}
 use Rattle.mp_words.specs.Request.{Asked, Tried, outcome_of}
-use Rattle.mp_run.specs.PlainState.{with_tries}
-use Rattle.mp_run.specs.Numbers.{has_req, has_flight, asked_at, standing}
+use Rattle.mp_legal.specs.PlainState.{with_tries}
+use Rattle.mp_legal.specs.Numbers.{has_req, has_flight, asked_at, standing}
 use Rattle.mp_run.specs.Engine.{AreSent}
 use Rattle.mp_run.proofs.ByNumber.{or_false}
 

@@ -3,8 +3,8 @@ use Rattle.std.proofs.Common.{◌≡◌, List, [], ◌++◌, refl, sym, ap, ◌�
 use Rattle.mp_words.specs.declared.entry.RowEntry.{RowEntry}
 use Rattle.mp_words.specs.declared.entry.OrderEntry.{OrderEntry}
 use Rattle.mp_record.specs.declared.event.Event.{Event}
-use Rattle.mp_run.specs.PlainState.{State}
-use Rattle.mp_run.specs.Stepped.{Stepped, tells, joined, and_then}
+use Rattle.mp_legal.specs.PlainState.{State}
+use Rattle.mp_legal.specs.Stepped.{Stepped, tells, joined, and_then}
 use Rattle.mp_run.specs.Engine.{Does}
 
 -- What was noted so far and what is left give what all gives.

@@ -12,8 +12,8 @@ use Rattle.std.proofs.lemmas.List.{map-append}
 use Rattle.mp_checks.specs.Marks.{has}
 use Rattle.mp_words.specs.declared.trying.Outcome.TheVariants.{Sent}
 use Rattle.mp_words.specs.Request.{Asked, outcome_of}
-use Rattle.mp_run.specs.PlainRun.{entries_of, by_number}
-use Rattle.mp_run.specs.Numbers.{has_req, asked_at, asked_or, standing}
+use Rattle.mp_legal.specs.PlainRun.{entries_of, by_number}
+use Rattle.mp_legal.specs.Numbers.{has_req, asked_at, asked_or, standing}
 use Rattle.mp_script.specs.Distinct.{IsDistinct}
 use Rattle.mp_run.specs.Told.{IsOver, AreNumbered}
 use Rattle.mp_run.proofs.ByNumber.{find_behind}

@@ -1,5 +1,5 @@
 -- A try keeps the state sound.
-use Rattle.mp_words.specs.declared.note.Note.{Note}
+use Rattle.mp_legal.specs.TryRead.{TryRead}
 use Rattle.mp_words.specs.declared.trying.Outcome.{Outcome}
 use Rattle.std.proofs.Common.{◌≡◌, ℕ, ◌<◌, true, false, ◌==◌, List, [], ◌∷◌, ◌++◌, inl, inr, map, get_or, set, Option, Some, None, refl, sym, ap, ◌∙◌, append_assoc, length}
 use Rattle.std.proofs.lemmas.Bool.{cases_Bool, eqb-true}
@@ -11,10 +11,10 @@ use Rattle.mp_words.specs.declared.trying.TryEnd.{TryEnd}
 use Rattle.mp_words.specs.declared.trying.TryEnd.TheVariants.{Sent, Listed, Failed}
 use Rattle.mp_words.specs.declared.trying.Outcome.TheVariants as outcome
 use Rattle.mp_words.specs.Request.{Asked, Tried, outcome_of}
-use Rattle.mp_run.specs.PlainState.{State, with_tries}
-use Rattle.mp_run.specs.PlainSubmit.{submitted, tried, end_of, choice_by}
-use Rattle.mp_run.specs.PlainLine.{flights_of}
-use Rattle.mp_run.specs.Numbers.{has_req, has_flight, asked_at, standing}
+use Rattle.mp_legal.specs.PlainState.{State, with_tries}
+use Rattle.mp_legal.specs.PlainSubmit.{submitted, tried, end_of, choice_by}
+use Rattle.mp_legal.specs.PlainLine.{flights_of}
+use Rattle.mp_legal.specs.Numbers.{has_req, has_flight, asked_at, standing}
 use Rattle.mp_script.specs.Distinct.{IsDistinct}
 use Rattle.mp_run.specs.Sound.{IsSound, AreOf}
 use Rattle.mp_run.proofs.Chosen.{request_is, asked_req}
@@ -65,8 +65,8 @@ aloft_by s req before t others was unsent k r e =
       | inr other ↦ k.aloft r other e
     ]
 
-sound_failed : (s : State) (req : ℕ) (others : List ℕ) (before : List Tried) (t : Tried) (notes : List (ℕ × Note)) → before ≡ (asked_at req s.requests).tries → outcome_of (Some t) ≡ outcome.Failed → IsSound s (req ∷ others)
-    → IsSound (record s { requests = with_tries req (before ++ t ∷ []) s.requests; notes = notes }) others
+sound_failed : (s : State) (req : ℕ) (others : List ℕ) (before : List Tried) (t : Tried) (notes : List (ℕ × TryRead)) → before ≡ (asked_at req s.requests).tries → outcome_of (Some t) ≡ outcome.Failed → IsSound s (req ∷ others)
+    → IsSound (record s { requests = with_tries req (before ++ t ∷ []) s.requests; reads = notes }) others
 sound_failed s req others before t notes was is sound =
     let k = kept_by s req (before ++ t ∷ []) others sound in
     record { small = k.small; sent = k.sent; aloft = aloft_by s req before t others was (λ e. failed is e) k; home = sound.home; once = sound.once; alone = sound.alone; waits = k.waits; queued = k.queued }
@@ -74,8 +74,8 @@ sound_failed s req others before t notes was is sound =
     failed : {o : Outcome} → o ≡ outcome.Failed → o ≡ outcome.Sent → ⊥
     failed p q = absurd cc
 
-sound_listed : (s : State) (req : ℕ) (others : List ℕ) (before : List Tried) (t : Tried) (notes : List (ℕ × Note)) → before ≡ (asked_at req s.requests).tries → outcome_of (Some t) ≡ outcome.Waiting → IsSound s (req ∷ others)
-    → IsSound (record s { waiting = s.waiting ++ req ∷ []; requests = with_tries req (before ++ t ∷ []) s.requests; notes = notes }) others
+sound_listed : (s : State) (req : ℕ) (others : List ℕ) (before : List Tried) (t : Tried) (notes : List (ℕ × TryRead)) → before ≡ (asked_at req s.requests).tries → outcome_of (Some t) ≡ outcome.Waiting → IsSound s (req ∷ others)
+    → IsSound (record s { waiting = s.waiting ++ req ∷ []; requests = with_tries req (before ++ t ∷ []) s.requests; reads = notes }) others
 sound_listed s req others before t notes was is sound =
     let tries : List Tried = before ++ t ∷ [] in
     let k = kept_by s req tries others sound in
@@ -100,8 +100,8 @@ sound_listed s req others before t notes was is sound =
     waiting : {o : Outcome} → o ≡ outcome.Waiting → o ≡ outcome.Sent → ⊥
     waiting p q = absurd cc
 
-sound_sent : (s : State) (at req : ℕ) (others : List ℕ) (before : List Tried) (t : Tried) (f : Flight) (lasts : List (Option ℕ)) (notes : List (ℕ × Note)) → before ≡ (asked_at req s.requests).tries → outcome_of (Some t) ≡ outcome.Sent → f.req ≡ req → f.lane ≡ at → at < length s.flights → IsSound s (req ∷ others)
-    → IsSound (record s { flights = set s.flights at (get_or s.flights at [] ++ f ∷ []); lasts = lasts; requests = with_tries req (before ++ t ∷ []) s.requests; notes = notes }) others
+sound_sent : (s : State) (at req : ℕ) (others : List ℕ) (before : List Tried) (t : Tried) (f : Flight) (lasts : List (Option ℕ)) (notes : List (ℕ × TryRead)) → before ≡ (asked_at req s.requests).tries → outcome_of (Some t) ≡ outcome.Sent → f.req ≡ req → f.lane ≡ at → at < length s.flights → IsSound s (req ∷ others)
+    → IsSound (record s { flights = set s.flights at (get_or s.flights at [] ++ f ∷ []); lasts = lasts; requests = with_tries req (before ++ t ∷ []) s.requests; reads = notes }) others
 sound_sent s at req others before t f lasts notes was is number lane_is lt sound =
     let tries : List Tried = before ++ t ∷ [] in
     let k = kept_by s req tries others sound in

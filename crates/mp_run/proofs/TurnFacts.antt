@@ -9,7 +9,7 @@ use Rattle.std.proofs.lemmas.List.{length-append}
 use Rattle.mp_checks.specs.Marks.{has}
 use Rattle.mp_script.specs.declared.script.LanePlan.{LanePlan}
 use Rattle.mp_script.specs.declared.script.Numbered1.{Numbered1}
-use Rattle.mp_run.specs.Turns.{Turn, turn_in, line_turn, round_of, longest, turns_of}
+use Rattle.mp_legal.specs.Turns.{Turn, turn_in, line_turn, round_of, longest, turns_of}
 use Rattle.mp_script.specs.Distinct.{IsDistinct}
 use Rattle.mp_run.specs.LaneTurns.{submit_in, turns_submits}
 use Rattle.mp_script.specs.Facts.{AreSimple, submit_of, submits_of}

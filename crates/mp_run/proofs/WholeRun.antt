@@ -1,5 +1,5 @@
 -- The whole run.
-use Rattle.mp_run.specs.PlainLine.{flights_of}
+use Rattle.mp_legal.specs.PlainLine.{flights_of}
 use Rattle.std.proofs.Common.{◌≡◌, ℕ, zero, suc, true, List, [], ◌∷◌, ◌++◌, map, length, get_or, replicate, refl, sym, ap, ◌∙◌, append-nil, subst, arith}
 use Rattle.std.specs.Prelude.{position, IfOk, Result, Ok, Err}
 use Rattle.std.specs.List.{enumerate_from, range_with_len, flat_map}
@@ -15,21 +15,21 @@ use Rattle.mp_script.specs.declared.script.LanePlan.{LanePlan}
 use Rattle.mp_script.specs.declared.script.Script.{Script}
 use Rattle.mp_script.specs.declared.script.World.{World}
 use Rattle.mp_page.specs.Page.{page_in}
-use Rattle.mp_run.specs.PlainState.{State}
-use Rattle.mp_run.specs.PlainCall.{Inputs}
-use Rattle.mp_run.specs.PlainRun.{Taken, taken, state_after, events_in, run_of, plain_run, by_number, run_over, state_left, notes_over}
-use Rattle.mp_run.specs.Opening.{opening, opening_rows, opening_row, opening_entry}
-use Rattle.mp_run.specs.Stepped.{Stepped}
-use Rattle.mp_run.specs.Drain.{drain}
-use Rattle.mp_run.specs.Turns.{turns_of}
+use Rattle.mp_legal.specs.PlainState.{State}
+use Rattle.mp_legal.specs.PlainCall.{Inputs}
+use Rattle.mp_legal.specs.PlainRun.{Taken, taken, state_after, events_in, run_of, plain_run, by_number, run_over, state_left, reads_over}
+use Rattle.mp_legal.specs.Opening.{opening, opening_rows, opening_row, opening_entry}
+use Rattle.mp_legal.specs.Stepped.{Stepped}
+use Rattle.mp_legal.specs.Drain.{drain}
+use Rattle.mp_legal.specs.Turns.{turns_of}
 use Rattle.mp_run.specs.Gathered.{alone, first_entry}
-use Rattle.mp_run.specs.Inputs.{inputs_of}
+use Rattle.mp_legal.specs.Inputs.{inputs_of}
 use Rattle.mp_run.specs.World.{IsWorld}
 use Rattle.mp_run.specs.Engine.{Does, IsReady}
 use Rattle.mp_run.specs.OnTurns.{IsOn}
 use Rattle.mp_run.specs.Sound.{IsSound, AreOf}
 use Rattle.mp_script.specs.Distinct.{IsDistinct}
-use Rattle.mp_run.specs.Numbers.{has_flight}
+use Rattle.mp_legal.specs.Numbers.{has_flight}
 use Rattle.std.specs.Prelude.{slice_get}
 
 -- nothing flies at the opening
@@ -126,10 +126,10 @@ unfolding run_over
 run_over_is world script none =
     ap (λ (answers : List Answer). plain_run (record { topology = world.topology; pages = map (page_in world.topology.anagrpmax) world.pages; answers = answers }) script.lanes) none
 
-pub notes_over_is : (world : World) (script : Script) → script.answers ≡ [] → notes_over world script ≡ (state_left (inputs_of world) script.lanes).notes
-unfolding notes_over
-notes_over_is world script none =
-    ap (λ (answers : List Answer). (state_left (record { topology = world.topology; pages = map (page_in world.topology.anagrpmax) world.pages; answers = answers }) script.lanes).notes) none
+pub reads_over_is : (world : World) (script : Script) → script.answers ≡ [] → reads_over world script ≡ (state_left (inputs_of world) script.lanes).reads
+unfolding reads_over
+reads_over_is world script none =
+    ap (λ (answers : List Answer). (state_left (record { topology = world.topology; pages = map (page_in world.topology.anagrpmax) world.pages; answers = answers }) script.lanes).reads) none
 
 -- an answer that is one thing is another
 pub if_ok : {T E : Type 0} {P Q : T → Type 0} (r : Result T E) → ((v : T) → P v → Q v) → IfOk r P → IfOk r Q

@@ -6,11 +6,11 @@ use Rattle.mp_words.specs.declared.trying.Outcome.TheVariants.{Sent}
 use Rattle.mp_words.specs.Request.{Asked}
 use Rattle.mp_record.specs.declared.event.Event.{Event}
 use Rattle.mp_run.specs.declared.engine.Engine.{Engine}
-use Rattle.mp_run.specs.PlainState.{State}
+use Rattle.mp_legal.specs.PlainState.{State}
 use Rattle.mp_record.specs.declared.event.Said.TheVariants as said
-use Rattle.mp_run.specs.PlainFinish.{finished}
-use Rattle.mp_run.specs.Stepped.{Stepped, and_then, says, each}
-use Rattle.mp_run.specs.Numbers.{standing, has_flight}
+use Rattle.mp_legal.specs.PlainFinish.{finished}
+use Rattle.mp_legal.specs.Stepped.{Stepped, and_then, says, each}
+use Rattle.mp_legal.specs.Numbers.{standing, has_flight}
 
 -- The state that the engine stands for. No last choice is kept, and no removal is under way.
 abbrev pub state_of : Engine → State
@@ -23,7 +23,7 @@ state_of e = record {
   removals = [];
   flips = 0;
   requests = e.requests.asked;
-  notes = e.requests.noted;
+  reads = e.requests.noted;
 }
 
 -- A state with a row for each slot, at most eight of them listed, and flights for each lane, under NUMA.

@@ -3,7 +3,7 @@ use Rattle.std.specs.Prelude.{ℕ, List, [], Option, Some, None}
 use Rattle.std.specs.List.{flat_map}
 use Rattle.mp_script.specs.declared.script.Numbered1.{Numbered1}
 use Rattle.mp_run.specs.declared.turns.LaneTurn.{LaneTurn}
-use Rattle.mp_run.specs.Turns.{Turn}
+use Rattle.mp_legal.specs.Turns.{Turn}
 use Rattle.mp_script.specs.Facts.{submit_of, IsSimple}
 
 -- the turn

@@ -2,12 +2,12 @@
 use Rattle.std.specs.Prelude.{◌≡◌, ℕ, zero, suc, ◌<◌, true, [], length, if◌then◌else◌}
 use Rattle.std.specs.List.{list_any}
 use Rattle.mp_checks.specs.Marks.{has}
-use Rattle.mp_run.specs.PlainState.{State}
-use Rattle.mp_run.specs.PlainCall.{Inputs}
-use Rattle.mp_run.specs.PlainLine.{flights_of}
-use Rattle.mp_run.specs.Numbers.{has_req}
-use Rattle.mp_run.specs.Stepped.{Stepped}
-use Rattle.mp_run.specs.Drain.{round, is_sent}
+use Rattle.mp_legal.specs.PlainState.{State}
+use Rattle.mp_legal.specs.PlainCall.{Inputs}
+use Rattle.mp_legal.specs.PlainLine.{flights_of}
+use Rattle.mp_legal.specs.Numbers.{has_req}
+use Rattle.mp_legal.specs.Stepped.{Stepped}
+use Rattle.mp_legal.specs.Drain.{round, is_sent}
 
 -- the last of this round and those after it, at most so many
 abbrev pub last_round : Inputs → ℕ → Stepped → Stepped

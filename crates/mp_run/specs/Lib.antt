@@ -1,21 +1,4 @@
--- The plain run of a whole script, what the engine keeps against it, and what the top call answers. The files whose
--- names begin with Plain, and Stepped, Turns, Drain, Units, Opening and Answers, define the whole script
--- language and have no word of the engine.
-pub mod Answers
-pub mod PlainState
-pub mod Stepped
-pub mod PlainSubmit
-pub mod PlainFinish
-pub mod PlainChange
-pub mod PlainKeep
-pub mod PlainCall
-pub mod PlainLine
-pub mod Opening
-pub mod Turns
-pub mod Drain
-pub mod PlainRun
-pub mod Units
-pub mod Numbers
+-- What the engine keeps against the plain run, and what the top call answers.
 pub mod Notes
 pub mod RequestsView
 pub mod Indexed
@@ -23,9 +6,9 @@ pub mod Flying
 pub mod Engine
 pub mod Sound
 pub mod LaneTurns
-pub mod Inputs
 pub mod World
 pub mod OpeningSlots
+pub mod FirstMemory
 pub mod OnTurns
 pub mod Gathered
 pub mod LastRound
@@ -39,23 +22,3 @@ pub mod Outcome
 pub mod Outside
 pub mod TooLong
 pub mod Accepted
-pub mod CaseParts
-pub mod CaseAllFifteenSlots
-pub mod CaseChangeArmsAndTimerExpires
-pub mod CaseDeadControllersFailARequest
-pub mod CaseDoNotRetryCompletes
-pub mod CaseEmptyScript
-pub mod CaseFailoverHostErrorKeepsPath
-pub mod CaseFailoverSetsPending
-pub mod CaseKeeperAnswers
-pub mod CaseNumaFirstOfTwoNonOptimized
-pub mod CaseNumaTwoRequests
-pub mod CasePolicyChanges
-pub mod CaseQueueDepthFirstOfEquals
-pub mod CaseRemoveReapAdd
-pub mod CaseResettingControllersListARequest
-pub mod CaseRoundRobinNonoptimizedWalk
-pub mod CaseRoundRobinNothingUsable
-pub mod CaseSixAttemptsEndRetries
-pub mod CaseStorageFailover
-pub mod CaseUnits

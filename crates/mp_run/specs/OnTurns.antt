@@ -2,10 +2,10 @@
 use Rattle.std.specs.Prelude.{◌≡◌, ℕ, ◌<◌, List, [], ◌∷◌, ◌++◌, slice_index_or}
 use Rattle.std.specs.List.{flat_map}
 use Rattle.mp_record.specs.declared.event.Event.{Event}
-use Rattle.mp_run.specs.PlainState.{State}
-use Rattle.mp_run.specs.PlainCall.{Inputs}
-use Rattle.mp_run.specs.PlainRun.{taken, state_after, events_in}
-use Rattle.mp_run.specs.Turns.{Turn}
+use Rattle.mp_legal.specs.PlainState.{State}
+use Rattle.mp_legal.specs.PlainCall.{Inputs}
+use Rattle.mp_legal.specs.PlainRun.{taken, state_after, events_in}
+use Rattle.mp_legal.specs.Turns.{Turn}
 use Rattle.mp_run.specs.LaneTurns.{IsSimpleTurn}
 
 -- each turn is of one of so many lanes, and is an end or a line that submits or finishes

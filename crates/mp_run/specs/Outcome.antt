@@ -22,7 +22,7 @@ use Rattle.mp_run.specs.declared.status.Status.{Status}
 use Rattle.mp_run.specs.declared.status.Status.TheVariants as end
 use Rattle.mp_run.specs.Forms.{Names, Form, serial, pages, help, version, form_of}
 use Rattle.mp_run.specs.Help.{help_text, version_text}
-use Rattle.mp_run.specs.PlainRun.{run_over}
+use Rattle.mp_legal.specs.PlainRun.{run_over}
 
 infixl 10 ◌>>=◌
 -- what follows from a result that is no refusal

@@ -1,8 +1,8 @@
 -- Lanes in which nothing flies.
 use Rattle.std.specs.Prelude.{◌≡◌, ℕ, Bool, ◌==◌, not, is_some, List, [], ◌∷◌, if◌then◌else◌}
-use Rattle.mp_run.specs.PlainState.{State}
-use Rattle.mp_run.specs.PlainLine.{flights_of}
-use Rattle.mp_run.specs.Turns.{Turn}
+use Rattle.mp_legal.specs.PlainState.{State}
+use Rattle.mp_legal.specs.PlainLine.{flights_of}
+use Rattle.mp_legal.specs.Turns.{Turn}
 
 -- nothing flies
 abbrev pub IsQuiet : State → Type 0

@@ -3,9 +3,9 @@ use Rattle.std.specs.Prelude.{◌≡◌, ℕ, ◌<◌, true, List, [], ◌∷◌
 use Rattle.mp_checks.specs.Marks.{has}
 use Rattle.mp_words.specs.declared.flight.Flight.{Flight}
 use Rattle.mp_words.specs.declared.trying.Outcome.TheVariants.{Sent, Waiting}
-use Rattle.mp_run.specs.PlainState.{State}
-use Rattle.mp_run.specs.PlainLine.{flights_of}
-use Rattle.mp_run.specs.Numbers.{has_req, has_flight, standing}
+use Rattle.mp_legal.specs.PlainState.{State}
+use Rattle.mp_legal.specs.PlainLine.{flights_of}
+use Rattle.mp_legal.specs.Numbers.{has_req, has_flight, standing}
 use Rattle.mp_script.specs.Distinct.{IsDistinct}
 
 -- each flight is of this lane

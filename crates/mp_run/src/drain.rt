@@ -2,11 +2,11 @@
 
 ghost use Rattle.std.specs.Prelude.{◌≡◌, ◌||◌, ℕ, List, [], ◌∷◌, IfOk, OnOk};
 ghost use Rattle.std.specs.List.{list_any};
-ghost use Rattle.mp_run.specs.Drain as plain;
+ghost use Rattle.mp_legal.specs.Drain as plain;
 ghost use Rattle.mp_run.specs.Engine.{state_of, IsReady, Does};
-ghost use Rattle.mp_run.specs.Inputs.{inputs_of};
+ghost use Rattle.mp_legal.specs.Inputs.{inputs_of};
 ghost use Rattle.mp_run.specs.Sound.{IsSound};
-ghost use Rattle.mp_run.specs.Stepped.{each};
+ghost use Rattle.mp_legal.specs.Stepped.{each};
 
 use crate::engine::Engine;
 use crate::error::RunError;

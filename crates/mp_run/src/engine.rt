@@ -1,20 +1,20 @@
 //! The state of a run, and its calls.
 
 ghost use Rattle.std.specs.Prelude.{◌≡◌, ◌≤◌, ◌<◌, ℕ, true, false, [], IfOk, OnOk, Some, None, length, map, take, zip, replicate, slice_index_or};
-ghost use Rattle.std.specs.List.{list_any, range_with_len};
+ghost use Rattle.std.specs.List.{list_any};
 ghost use Rattle.mp_words.specs.declared.trying.Outcome.TheVariants as outcome;
 ghost use Rattle.mp_record.specs.declared.event.Event.TheVariants as event;
 ghost use Rattle.mp_words.specs.Effect.{free_row};
 ghost use Rattle.mp_words.specs.Row.{is_available};
 ghost use Rattle.mp_words.specs.Request.{Asked};
 ghost use Rattle.mp_words.specs.PathTable as table;
-ghost use Rattle.mp_run.specs.PlainState.{paths_of, reading_of, read_row};
-ghost use Rattle.mp_run.specs.PlainSubmit.{submitted, end_of, choice_by, after_try};
-ghost use Rattle.mp_run.specs.PlainFinish.{finished};
-ghost use Rattle.mp_run.specs.PlainLine.{flights_of};
-ghost use Rattle.mp_run.specs.Stepped.{each};
-ghost use Rattle.mp_run.specs.Drain.{is_sent};
-ghost use Rattle.mp_run.specs.Numbers.{has_req, standing, has_flight};
+ghost use Rattle.mp_legal.specs.PlainState.{paths_of};
+ghost use Rattle.mp_legal.specs.PlainSubmit.{submitted, end_of, choice_by, after_try};
+ghost use Rattle.mp_legal.specs.PlainFinish.{finished};
+ghost use Rattle.mp_legal.specs.PlainLine.{flights_of};
+ghost use Rattle.mp_legal.specs.Stepped.{each};
+ghost use Rattle.mp_legal.specs.Drain.{is_sent};
+ghost use Rattle.mp_legal.specs.Numbers.{has_req, standing, has_flight};
 ghost use Rattle.mp_run.specs.Engine.{state_of, IsReady, Does, AreSent};
 
 use crate::aloft::Aloft;
@@ -49,7 +49,6 @@ impl Engine {
     /// What a choice reads.
     fn reading(&self) -> Reading
         requires ready { IsReady (state_of self.now) }
-        ensures whole { result ≡ reading_of (state_of self.now) }
         ensures within { result.len ≤ 8 }
         ensures paths { table.paths_of result ≡ paths_of (state_of self.now) }
     {
@@ -124,8 +123,10 @@ impl Engine {
         let end = self.end_from(&reading, node, near);
         let hop = self.requests.next_hop(req)?;
         notes.reserve(1)?;
-        self.requests
-            .tried(req, open_try(hop, end, blank_note(lane, &reading)))?;
+        self.requests.tried(
+            req,
+            open_try(hop, end, blank_note(lane, &self.order, &reading)),
+        )?;
         self.put(lane, req, end)?;
         notes.push(Event::Try { req, hop, end });
         Ok(was_sent(&end))
@@ -171,8 +172,7 @@ impl Engine {
 fn rows_read(rows: &[Row], slots: &[Slot; 8], len: u8) -> [Row; 8]
     requires all { 15 ≤ length rows.now }
     requires within { len ≤ 8 }
-    ensures rows { result ≡ map (read_row rows.now slots.now len) (range_with_len 0 8) }
-    ensures paths { map table.path_of (take len (zip slots.now result)) ≡ map (λ slot. record { slot = slot; row = slice_index_or rows.now slot (free_row 0) }) (take len slots.now) }
+    ensures { map table.path_of (take len (zip slots.now result)) ≡ map (λ slot. record { slot = slot; row = slice_index_or rows.now slot (free_row 0) }) (take len slots.now) }
 {
     let mut read = [free_row(); 8];
     for place in 0..usize::from(len) {
@@ -195,15 +195,15 @@ fn any_available(rows: &[Row], slots: &[Slot; 8], len: u8) -> bool
     found
 }
 
-/// The note of a section of which nothing is told yet but the reading.
-fn blank_note(lane: LaneId, reading: &Reading) -> Note
-    ensures { result ≡ record { lane = lane; side = 0; ticket = 0; order = None; reading = reading.now; read = replicate 8 false; current = None; depths = replicate 8 None } }
+/// The note of a section of which nothing is told yet but the list and the reading.
+fn blank_note(lane: LaneId, order: &Order, reading: &Reading) -> Note
+    ensures { result ≡ record { lane = lane; side = 0; ticket = 0; order = Some order.now; reading = reading.now; read = replicate 8 false; current = None; depths = replicate 8 None } }
 {
     Note {
         lane,
         side: 0,
         ticket: 0,
-        order: None,
+        order: Some(*order),
         reading: *reading,
         read: [false; 8],
         current: None,

@@ -2,8 +2,8 @@
 
 ghost use Rattle.std.specs.Prelude.{◌≡◌, ◌==◌, ◌++◌, ◌∷◌, [], false, not, IfOk, OnOk, filter, length};
 ghost use Rattle.std.specs.Option.{option_to_list};
-ghost use Rattle.mp_run.specs.Numbers.{has_flight};
-ghost use Rattle.mp_run.specs.PlainLine.{flights_with};
+ghost use Rattle.mp_legal.specs.Numbers.{has_flight};
+ghost use Rattle.mp_legal.specs.PlainLine.{flights_with};
 ghost use Rattle.mp_run.specs.Flying.{flying, flight_at};
 
 use crate::aloft::Aloft;

@@ -2,11 +2,11 @@
 
 ghost use Rattle.std.specs.Prelude.{◌≡◌, ◌∷◌, [], ◌<◌, ◌≤◌, ℕ, List, IfOk, OnOk, map, length};
 ghost use Rattle.std.specs.List.{enumerate_from};
-ghost use Rattle.mp_words.specs.declared.note.Note.{Note};
+ghost use Rattle.mp_legal.specs.TryRead.{TryRead};
 ghost use Rattle.mp_words.specs.Request.{asked_of};
 ghost use Rattle.mp_run.specs.Notes.{AreNoted};
-ghost use Rattle.mp_run.specs.Opening.{opening_entry};
-ghost use Rattle.mp_run.specs.PlainRun.{by_number, entries_of};
+ghost use Rattle.mp_legal.specs.Opening.{opening_entry};
+ghost use Rattle.mp_legal.specs.PlainRun.{by_number, entries_of};
 ghost use Rattle.std.specs.BTreeMap.{insert_entry};
 ghost use Rattle.std.specs.Ordering.{nat_cmp};
 ghost use Rattle.mp_run.specs.Gathered.{alone, first_entry, told};
@@ -79,7 +79,7 @@ fn put(placed: &mut BTreeMap<u32, Request>, request: Request) -> Result<(), RunE
 /// Puts each request at its number.
 fn placed(alloc: Global, requests: Vec<Request>) -> Result<BTreeMap<u32, Request>, RunError>
     ensures told { IfOk result (λ placed. map told placed.entries ≡ entries_of (map asked_of requests.items)) }
-    ensures noted { (made : List (ℕ × Note)) → AreNoted made requests.items → IfOk result (λ placed. AreNoted made (map (λ entry. entry.1) placed.entries)) }
+    ensures noted { (made : List (ℕ × TryRead)) → AreNoted made requests.items → IfOk result (λ placed. AreNoted made (map (λ entry. entry.1) placed.entries)) }
 {
     let mut placed = BTreeMap::new(alloc);
     for request in requests {
@@ -98,7 +98,7 @@ fn values_of(alloc: Global, placed: BTreeMap<u32, Request>) -> Result<Vec<Reques
 /// The requests by number.
 pub fn numbered(alloc: Global, requests: Vec<Request>) -> Result<Items<Request>, RunError>
     ensures told { IfOk result (λ all. map asked_of all ≡ by_number (map asked_of requests.items)) }
-    ensures noted { (made : List (ℕ × Note)) → AreNoted made requests.items → IfOk result (AreNoted made) }
+    ensures noted { (made : List (ℕ × TryRead)) → AreNoted made requests.items → IfOk result (AreNoted made) }
 {
     let placed = placed(alloc, requests)?;
     let all = values_of(alloc, placed)?;

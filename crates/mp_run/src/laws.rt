@@ -4,13 +4,13 @@ ghost use Rattle.std.specs.Prelude.{◌≡◌, ℕ, ◌+◌, false, List, Ok, Er
 ghost use Rattle.std.specs.List.{list_any};
 ghost use Rattle.mp_record.specs.RunView.{RunView};
 ghost use Rattle.mp_script.specs.declared.script.LanePlan.{LanePlan};
-ghost use Rattle.mp_run.specs.CaseUnits as case;
-ghost use Rattle.mp_run.specs.PlainCall.{Inputs};
-ghost use Rattle.mp_run.specs.PlainRun.{plain_run};
-ghost use Rattle.mp_run.specs.PlainState.{State};
-ghost use Rattle.mp_run.specs.Drain.{round, rounds, rounds_from, most_rounds, is_sent};
+ghost use Rattle.mp_legal.specs.CaseUnits as case;
+ghost use Rattle.mp_legal.specs.PlainCall.{Inputs};
+ghost use Rattle.mp_legal.specs.PlainRun.{plain_run};
+ghost use Rattle.mp_legal.specs.PlainState.{State};
+ghost use Rattle.mp_legal.specs.Drain.{round, rounds, rounds_from, most_rounds, is_sent};
 ghost use Rattle.mp_run.specs.LastRound.{last_round, CanDrain};
-ghost use Rattle.mp_run.specs.Units.{serial_run};
+ghost use Rattle.mp_legal.specs.Units.{serial_run};
 
 /// The last round of a drain sends nothing, whatever the rows, the list and the scripted statuses: the bound of rounds
 /// is never what ends them.

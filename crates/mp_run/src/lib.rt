@@ -2,10 +2,10 @@
 #![tactic(auto)]
 
 mod aloft;
-pub mod cases;
 mod drain;
 mod engine;
 pub mod error;
+pub mod first_words;
 mod flights;
 mod forms;
 mod gather;

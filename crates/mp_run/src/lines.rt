@@ -3,10 +3,10 @@
 ghost use Rattle.std.specs.Prelude.{◌≡◌, ◌<◌, ◌^◌, ℕ, true, false, [], OnOk, Some, length};
 ghost use Rattle.mp_checks.specs.Marks.{has};
 ghost use Rattle.mp_script.specs.declared.script.Line.TheVariants as line;
-ghost use Rattle.mp_run.specs.PlainLine.{flights_of, flights_with, turn_step};
-ghost use Rattle.mp_run.specs.Numbers.{has_req};
+ghost use Rattle.mp_legal.specs.PlainLine.{flights_of, flights_with, turn_step};
+ghost use Rattle.mp_legal.specs.Numbers.{has_req};
 ghost use Rattle.mp_run.specs.Sound.{IsSound};
-ghost use Rattle.mp_run.specs.Inputs.{inputs_of};
+ghost use Rattle.mp_legal.specs.Inputs.{inputs_of};
 ghost use Rattle.mp_run.specs.LaneTurns.{submit_in, IsSimpleTurn};
 ghost use Rattle.mp_run.specs.Engine.{state_of, finishes_line, IsReady, Does, AreSent};
 

@@ -6,8 +6,8 @@ ghost use Rattle.mp_words.specs.Effect.{free_row, given_row};
 ghost use Rattle.mp_page.specs.Page.{page_in};
 ghost use Rattle.mp_words.specs.Order.{order_of};
 ghost use Rattle.mp_page.specs.Gifts as gifts;
-ghost use Rattle.mp_run.specs.Opening as plain;
-ghost use Rattle.mp_run.specs.Inputs.{inputs_of};
+ghost use Rattle.mp_legal.specs.Opening as plain;
+ghost use Rattle.mp_legal.specs.Inputs.{inputs_of};
 ghost use Rattle.mp_run.specs.OpeningSlots.{slot_before};
 ghost use Rattle.mp_run.specs.World.{IsWorld};
 

@@ -4,10 +4,11 @@ ghost use Rattle.std.specs.Prelude.{◌≡◌, ◌≤◌, ◌+◌, ◌<◌, ◌+
 ghost use Rattle.std.specs.List.{last_or};
 ghost use Rattle.mp_words.specs.Request.{asked_of, outcome_of, tried_of};
 ghost use Rattle.mp_words.specs.declared.trying.Outcome.TheVariants as outcome;
-ghost use Rattle.mp_run.specs.PlainState.{with_tries};
-ghost use Rattle.mp_run.specs.PlainFinish.{ended_tries};
+ghost use Rattle.mp_legal.specs.PlainState.{with_tries};
+ghost use Rattle.mp_legal.specs.PlainFinish.{ended_tries};
+ghost use Rattle.mp_legal.specs.TryRead.{read_of};
 ghost use Rattle.mp_run.specs.Notes.{notes_of, AreNoted};
-ghost use Rattle.mp_run.specs.Numbers.{asked_at, has_req, standing};
+ghost use Rattle.mp_legal.specs.Numbers.{asked_at, has_req, standing};
 
 use crate::error::RunError;
 use crate::index::Index;
@@ -29,14 +30,14 @@ pub struct Requests {
 impl Model for Requests {
     ghost use Rattle.std.specs.Prelude.{map};
     ghost use Rattle.mp_words.specs.Request.{asked_of};
-    ghost use Rattle.mp_run.specs.Notes.{AreKept};
+    ghost use Rattle.mp_run.specs.Notes.{AreKept, reads_in};
     ghost use Rattle.mp_run.specs.RequestsView.{RequestsView};
 
     ghost Value = { RequestsView };
 
-    ghost view = { λ r. record { asked = map asked_of r.all.items; noted = r.noted.made } };
+    ghost view = { λ r. record { asked = map asked_of r.all.items; noted = reads_in r.noted.made } };
 
-    ghost invariant = { λ r. AreKept r.index r.all.items r.noted.made };
+    ghost invariant = { λ r. AreKept r.index r.all.items (reads_in r.noted.made) };
 }
 
 impl Requests {
@@ -120,7 +121,7 @@ impl Requests {
         requires count { made.count ≡ 0 }
         requires back { made.back ≡ None }
         ensures tried { OnOk result (self.new.asked ≡ with_tries req ((asked_at req self.old.asked).tries ++ tried_of made ∷ []) self.old.asked) }
-        ensures noted { OnOk result (self.new.noted ≡ self.old.noted ++ (req, made.note) ∷ []) }
+        ensures noted { OnOk result (self.new.noted ≡ self.old.noted ++ (req, read_of made.note) ∷ []) }
     {
         let place = self.index.at(req);
         append_try(&mut self.all[place], made)?;
@@ -157,7 +158,7 @@ fn append_try(request: &mut Request, made: Try) -> Result<(), RunError>
     requires count { made.count ≡ 0 }
     requires back { made.back ≡ None }
     ensures tries { OnOk result (asked_of request.new ≡ record (asked_of request.old) { tries = (asked_of request.old).tries ++ tried_of made ∷ [] }) }
-    ensures noted { OnOk result (notes_of request.new ≡ notes_of request.old ++ made.note ∷ []) }
+    ensures noted { OnOk result (notes_of request.new ≡ notes_of request.old ++ read_of made.note ∷ []) }
     ensures kept { OnErr result ((asked_of request.new ≡ asked_of request.old) × (notes_of request.new ≡ notes_of request.old)) }
     ensures id { request.new.id ≡ request.old.id }
 {

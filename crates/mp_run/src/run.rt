@@ -3,24 +3,24 @@
 ghost use Rattle.std.specs.Prelude.{◌≡◌, ◌≤◌, ◌++◌, ℕ, true, [], IfOk, OnOk, length, map, position, replicate, vec_len};
 ghost use Rattle.mp_words.specs.Request.{asked_of};
 ghost use Rattle.mp_record.specs.RunView.{view_of, events_of};
-ghost use Rattle.mp_run.specs.Opening as plain;
+ghost use Rattle.mp_legal.specs.Opening as plain;
 ghost use Rattle.mp_run.specs.World.{IsWorld};
 ghost use Rattle.mp_script.specs.Facts.{IsScript, IsBuilt, submits_in};
 ghost use Rattle.mp_script.specs.Distinct.{IsDistinct};
 ghost use Rattle.mp_run.specs.Engine.{state_of, IsReady};
-ghost use Rattle.mp_run.specs.Inputs.{inputs_of};
+ghost use Rattle.mp_legal.specs.Inputs.{inputs_of};
 ghost use Rattle.mp_run.specs.LaneTurns.{turn_of, turns_submits};
 ghost use Rattle.mp_run.specs.OnTurns.{AreSimpleTurns, IsOn};
-ghost use Rattle.mp_run.specs.PlainLine.{flights_of};
+ghost use Rattle.mp_legal.specs.PlainLine.{flights_of};
 ghost use Rattle.mp_run.specs.Quiet.{IsQuiet, closes};
 ghost use Rattle.mp_run.specs.Told.{IsOver, AreNumbered};
 ghost use Rattle.mp_run.specs.Notes.{AreNoted};
-ghost use Rattle.mp_run.specs.Numbers.{has_req};
+ghost use Rattle.mp_legal.specs.Numbers.{has_req};
 ghost use Rattle.mp_checks.specs.Marks.{has};
 ghost use Rattle.std.specs.List.{AllByRecursion};
-ghost use Rattle.mp_run.specs.PlainRun.{by_number, run_over, notes_over};
+ghost use Rattle.mp_legal.specs.PlainRun.{by_number, run_over, reads_over};
 ghost use Rattle.mp_run.specs.Sound.{IsSound};
-ghost use Rattle.mp_run.specs.Turns.{turns_of};
+ghost use Rattle.mp_legal.specs.Turns.{turns_of};
 
 use crate::engine::Engine;
 use crate::error::RunError;
@@ -207,7 +207,7 @@ pub fn run(alloc: Global, world: &World, script: &Script) -> Result<Run, RunErro
     ensures over { IfOk result (λ run. AllByRecursion IsOver (map asked_of run.requests)) }
 
     // Each try notes its lane and what it read.
-    ensures noted { IfOk result (λ run. AreNoted (notes_over world.now script.now) run.requests) }
+    ensures noted { IfOk result (λ run. AreNoted (reads_over world.now script.now) run.requests) }
 {
     let mut engine = start(alloc, world)?;
     let rows = histories(alloc, &engine.rows)?;

@@ -1,7 +1,7 @@
 //! Which lane runs what, turn by turn.
 
 ghost use Rattle.std.specs.Prelude.{◌≡◌, ◌≤◌, ◌<◌, ◌^◌, ◌++◌, ◌∷◌, [], IfOk, OnOk, length, map};
-ghost use Rattle.mp_run.specs.Turns as plain;
+ghost use Rattle.mp_legal.specs.Turns as plain;
 ghost use Rattle.mp_run.specs.LaneTurns.{turn_of};
 
 use crate::error::RunError;

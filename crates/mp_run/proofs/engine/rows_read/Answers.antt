@@ -2,9 +2,7 @@ use Rattle.std.proofs.Common.{◌≡◌, get_or, ap, ◌∙◌, sym, ℕ, arith,
 use Rattle.std.proofs.lemmas.List.{get_or_read, length-set}
 use Rattle.mp_words.specs.declared.row.Row.{Row}
 use Rattle.mp_words.specs.Effect.{free_row}
-use Rattle.std.proofs.lemmas.List.FromFn.{fill_by_all}
-use Rattle.mp_run.specs.PlainState.{read_row}
-use Rattle.mp_run.proofs.Readings.{read_step, rows_step}
+use Rattle.mp_run.proofs.Readings.{read_step}
 use Rattle.mp_run.proofs.engine.rows_read.Goals as goal
 
 pub loop-place-preserved : goal.loop-place-preserved
@@ -19,11 +17,5 @@ loop-place-preserved c =
     get_or_read rows c.get.result c.index-rows-get.result (omega arith) c.index-rows-get.is (free_row 0) ∙ ap row_of (c.get.ensures.number ∙ sym c.index-slots-place.is ∙ slot) in
     record {
       size = length-set read place c.index-rows-get.result ∙ c.loop-place.invariant.size;
-      each = λ n lt. rw (add-one place, row) (rows_step rows slots read place n (omega (arith, c.loop-place.invariant.size)) (c.loop-place.invariant.each n lt));
       so_far = rw (add-one place, row) (read_step row_of slots read place (omega arith) (omega arith) c.loop-place.invariant.so_far);
     }
-
-pub returns-clause-rows : goal.returns-clause-rows
-returns-clause-rows c =
-    let all : c.loop-place.place ≡ c.args.len = omega arith in
-    fill_by_all (read_row c.args.rows.now c.args.slots.now c.args.len) c.loop-place.read 8 (free_row 0) c.loop-place.invariant.size (rw all at c.loop-place.invariant.each)

@@ -1,6 +1,6 @@
 use Rattle.std.proofs.Common.{◌≡◌, map, take}
 use Rattle.std.specs.List.{enumerate_from}
-use Rattle.mp_run.specs.Opening.{opening_entry}
+use Rattle.mp_legal.specs.Opening.{opening_entry}
 use Rattle.mp_run.specs.Gathered.{alone}
 use Rattle.mp_run.proofs.gather.histories.Given as goal
 

@@ -6,7 +6,7 @@ use Rattle.std.proofs.lemmas.Iterator.Consumers.{YieldsList-end}
 use Rattle.std.proofs.lemmas.Iterator.Adapters.{YieldsList-from_vec}
 use Rattle.mp_words.specs.Request.{asked_of, Asked}
 use Rattle.mp_words.specs.RequestView.{RequestView}
-use Rattle.mp_run.specs.PlainRun.{entries_of}
+use Rattle.mp_legal.specs.PlainRun.{entries_of}
 use Rattle.mp_run.specs.Notes.{AreNoted}
 use Rattle.mp_run.proofs.NoteLists.{noted_parts, noted_insert}
 use Rattle.mp_run.proofs.Placed.{entries_of-more}

@@ -1,7 +1,7 @@
 use Rattle.std.proofs.Common.{◌≡◌, map, take}
 use Rattle.std.specs.Prelude.{slice_get}
-use Rattle.mp_run.specs.Opening as plain
-use Rattle.mp_run.specs.Inputs.{inputs_of}
+use Rattle.mp_legal.specs.Opening as plain
+use Rattle.mp_legal.specs.Inputs.{inputs_of}
 use Rattle.mp_run.proofs.opening.rows_of.Given as goal
 
 abbrev pub invariant-loop-ctrl : goal.invariant-loop-ctrl

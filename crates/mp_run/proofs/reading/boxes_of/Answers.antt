@@ -1,4 +1,4 @@
-use Rattle.std.proofs.Common.{◌≡◌, ◌≤◌, ℕ, All, List, length, sym, subst}
+use Rattle.std.proofs.Common.{◌≤◌, ℕ, All, List, length, sym, subst}
 use Rattle.std.proofs.lemmas.List.Elements.{All-map}
 use Rattle.mp_run.proofs.reading.boxes_of.Goals as goal
 

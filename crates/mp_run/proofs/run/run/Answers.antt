@@ -1,23 +1,23 @@
 use Rattle.std.proofs.Common.{subst, ℕ, List, ◌≡◌, ap, sym, ◌∙◌, length, map, refl, arith, []}
 use Rattle.std.proofs.lemmas.List.{length-map}
 use Rattle.mp_record.specs.RunView.{events_of}
-use Rattle.mp_run.specs.PlainState.{State}
-use Rattle.mp_run.specs.Opening.{opening, opening_rows}
-use Rattle.mp_run.specs.Inputs.{inputs_of}
+use Rattle.mp_legal.specs.PlainState.{State}
+use Rattle.mp_legal.specs.Opening.{opening, opening_rows}
+use Rattle.mp_legal.specs.Inputs.{inputs_of}
 use Rattle.mp_run.specs.Engine.{state_of}
-use Rattle.mp_run.proofs.WholeRun.{rows-length, opening_ready, opening_sound, opening_quiet, run_is, run_over_is, notes_over_is, if_ok}
+use Rattle.mp_run.proofs.WholeRun.{rows-length, opening_ready, opening_sound, opening_quiet, run_is, run_over_is, reads_over_is, if_ok}
 use Rattle.std.specs.List.{AllByRecursion}
 use Rattle.mp_record.specs.RunView.{RunView}
-use Rattle.mp_run.specs.PlainLine.{flights_of}
-use Rattle.mp_words.specs.declared.note.Note.{Note}
-use Rattle.mp_run.specs.Drain.{drain}
+use Rattle.mp_legal.specs.PlainLine.{flights_of}
+use Rattle.mp_legal.specs.TryRead.{TryRead}
+use Rattle.mp_legal.specs.Drain.{drain}
 use Rattle.mp_run.specs.Notes.{AreNoted}
-use Rattle.mp_run.specs.PlainRun.{by_number, notes_over}
-use Rattle.mp_run.specs.Turns.{turns_of}
+use Rattle.mp_legal.specs.PlainRun.{by_number, reads_over}
+use Rattle.mp_legal.specs.Turns.{turns_of}
 use Rattle.mp_run.specs.LaneTurns.{turns_submits}
 use Rattle.mp_script.specs.Distinct.{IsDistinct}
 use Rattle.mp_run.specs.Told.{IsOver, AreNumbered}
-use Rattle.mp_run.specs.Numbers.{has_req}
+use Rattle.mp_legal.specs.Numbers.{has_req}
 use Rattle.mp_script.specs.Facts.{submits_in}
 use Rattle.mp_run.proofs.Quiet.{Rests, drain_rests, none_sent}
 use Rattle.mp_run.proofs.OnTurns.{numbers}
@@ -95,6 +95,6 @@ returns-clause-noted c =
     let script = c.args.script.now in
     let i = inputs_of world in
     let on = rw c.in_ok-engine.ensures at c.in_ok-lanes.ensures.on in
-    let left : (state_of c.drain.new.self).notes ≡ notes_over world script =
-    ap (λ (s : State). s.notes) c.in_ok-drain.ensures.does.state ∙ ap (λ (s : State). (drain i s).state.notes) on.state ∙ sym (notes_over_is world script c.requires.built.answers) in
-    if_ok c.gathered.result (λ run noted. subst (λ (made : List (ℕ × Note)). AreNoted made run.requests) left noted) c.gathered.ensures.noted
+    let left : (state_of c.drain.new.self).reads ≡ reads_over world script =
+    ap (λ (s : State). s.reads) c.in_ok-drain.ensures.does.state ∙ ap (λ (s : State). (drain i s).state.reads) on.state ∙ sym (reads_over_is world script c.requires.built.answers) in
+    if_ok c.gathered.result (λ run noted. subst (λ (made : List (ℕ × TryRead)). AreNoted made run.requests) left noted) c.gathered.ensures.noted

@@ -3,7 +3,7 @@ use Rattle.std.proofs.lemmas.List.{length-replicate, length-map}
 use Rattle.mp_record.specs.RunView.{events_of}
 use Rattle.mp_record.specs.declared.event.Event.{Event}
 use Rattle.mp_run.specs.LaneTurns.{turn_of}
-use Rattle.mp_run.specs.Turns.{turns_of}
+use Rattle.mp_legal.specs.Turns.{turns_of}
 use Rattle.mp_run.proofs.TurnFacts.{longest_few, simple_turns, fresh_turns}
 use Rattle.mp_run.specs.Quiet.{closes}
 use Rattle.mp_run.proofs.Quiet.{turns_close}

@@ -5,10 +5,10 @@ use Rattle.mp_record.specs.NotesView.{NotesView}
 use Rattle.mp_run.specs.declared.turns.LaneTurn.{LaneTurn}
 use Rattle.mp_script.specs.Distinct.{IsDistinct}
 use Rattle.mp_run.specs.Engine.{state_of}
-use Rattle.mp_run.specs.Inputs.{inputs_of}
+use Rattle.mp_legal.specs.Inputs.{inputs_of}
 use Rattle.mp_run.specs.LaneTurns.{turn_of, turns_submits, submit_in}
 use Rattle.mp_run.specs.OnTurns.{AreSimpleTurns}
-use Rattle.mp_run.specs.PlainState.{State}
+use Rattle.mp_legal.specs.PlainState.{State}
 use Rattle.mp_run.proofs.OnTurns.{on_first, on_next, numbers, numbers-turn, fresh_in}
 use Rattle.std.specs.Prelude.{is_some}
 use Rattle.mp_run.proofs.Quiet.{quiet_next}

@@ -2,10 +2,10 @@ use Rattle.std.proofs.Common.{◌≡◌, ◌++◌, ℕ, Bool, true, [], map, dro
 use Rattle.mp_record.specs.RunView.{events_of}
 use Rattle.mp_script.specs.Distinct.{IsDistinct}
 use Rattle.mp_run.specs.Engine.{state_of, IsReady}
-use Rattle.mp_run.specs.Inputs.{inputs_of}
+use Rattle.mp_legal.specs.Inputs.{inputs_of}
 use Rattle.mp_run.specs.LaneTurns.{turn_of, turns_submits}
 use Rattle.mp_run.specs.OnTurns.{AreSimpleTurns, IsOn}
-use Rattle.mp_run.specs.PlainLine.{flights_of}
+use Rattle.mp_legal.specs.PlainLine.{flights_of}
 use Rattle.mp_run.specs.Quiet.{closes}
 use Rattle.mp_run.specs.Sound.{IsSound}
 use Rattle.mp_run.proofs.run.take_turns.Given as goal

@@ -1,5 +1,5 @@
 use Rattle.std.proofs.Common.{◌++◌, map, take, ap, sym, ◌∙◌, append_assoc, List, ℕ}
-use Rattle.mp_run.specs.Turns.{Turn, turn_in, round_of}
+use Rattle.mp_legal.specs.Turns.{Turn, turn_in, round_of}
 use Rattle.mp_run.specs.LaneTurns.{turn_of}
 use Rattle.mp_run.proofs.TurnLists.{round_more}
 use Rattle.mp_run.proofs.turns.push_round.Goals as goal

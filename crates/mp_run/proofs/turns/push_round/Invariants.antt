@@ -1,5 +1,5 @@
 use Rattle.std.proofs.Common.{◌≡◌, ◌++◌, map, take}
-use Rattle.mp_run.specs.Turns as plain
+use Rattle.mp_legal.specs.Turns as plain
 use Rattle.mp_run.specs.LaneTurns.{turn_of}
 use Rattle.mp_run.proofs.turns.push_round.Given as goal
 

@@ -1,5 +1,5 @@
 use Rattle.std.proofs.Common.{◌<◌, ◌++◌, map, length, ap, sym, ◌∙◌, append-nil, List, arith}
-use Rattle.mp_run.specs.Turns.{Turn}
+use Rattle.mp_legal.specs.Turns.{Turn}
 use Rattle.mp_run.specs.LaneTurns.{turn_of}
 use Rattle.mp_run.proofs.TurnLists.{none_in}
 use Rattle.mp_run.proofs.turns.push_turn.Goals as goal

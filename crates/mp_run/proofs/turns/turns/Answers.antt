@@ -1,5 +1,5 @@
 use Rattle.std.proofs.Common.{◌++◌, ap, sym, ◌∙◌, List}
-use Rattle.mp_run.specs.Turns.{Turn, round_of}
+use Rattle.mp_legal.specs.Turns.{Turn, round_of}
 use Rattle.mp_run.proofs.TurnLists.{rounds_more}
 use Rattle.mp_run.proofs.turns.turns.Goals as goal
 

@@ -1,6 +1,6 @@
 use Rattle.std.proofs.Common.{◌≡◌, map}
 use Rattle.std.specs.List.{flat_map, range_with_len}
-use Rattle.mp_run.specs.Turns as plain
+use Rattle.mp_legal.specs.Turns as plain
 use Rattle.mp_run.specs.LaneTurns.{turn_of}
 use Rattle.mp_run.proofs.turns.turns.Given as goal
 

@@ -1,6 +1,6 @@
 use Rattle.std.proofs.Common.{◌-◌, ◌+◌, refl, arith}
 use Rattle.mp_run.specs.Engine.{state_of}
-use Rattle.mp_run.specs.Inputs.{inputs_of}
+use Rattle.mp_legal.specs.Inputs.{inputs_of}
 use Rattle.mp_run.proofs.Rounds.{rounds_after, rounds_next, rounds_done, rounds_over, drain_does}
 use Rattle.mp_run.proofs.engine.Engine.drain.Goals as goal
 

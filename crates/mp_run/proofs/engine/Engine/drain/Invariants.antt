@@ -1,6 +1,6 @@
 use Rattle.std.proofs.Common.{◌-◌, []}
 use Rattle.mp_run.specs.Engine.{state_of, IsReady}
-use Rattle.mp_run.specs.Inputs.{inputs_of}
+use Rattle.mp_legal.specs.Inputs.{inputs_of}
 use Rattle.mp_run.specs.Sound.{IsSound}
 use Rattle.mp_run.proofs.Steps.{Continues}
 use Rattle.mp_run.proofs.Rounds.{rounds_after}

@@ -2,7 +2,7 @@ use Rattle.std.proofs.Common.{◌≡◌, ◌∙◌, [], length, get_or, ap, arit
 use Rattle.std.proofs.lemmas.List.{get_or_read}
 use Rattle.std.proofs.lemmas.Result.{on_ok_weaker}
 use Rattle.mp_run.specs.Engine.{state_of}
-use Rattle.mp_run.specs.PlainLine.{flights_of}
+use Rattle.mp_legal.specs.PlainLine.{flights_of}
 use Rattle.mp_run.proofs.Ends.{sent_of, there_of, sound_each}
 use Rattle.mp_run.proofs.Few.{few_fly}
 use Rattle.mp_run.proofs.engine.Engine.finish_all.Goals as goal

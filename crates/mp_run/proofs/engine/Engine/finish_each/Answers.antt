@@ -1,9 +1,9 @@
 use Rattle.std.proofs.Common.{◌≡◌, ◌+◌, ◌∷◌, [], List, drop, ap, ◌∙◌, sym, arith}
 use Rattle.std.proofs.lemmas.List.{drop_more, drop_all}
 use Rattle.mp_words.specs.declared.flight.Flight.{Flight}
-use Rattle.mp_run.specs.PlainState.{State}
-use Rattle.mp_run.specs.PlainFinish.{finished}
-use Rattle.mp_run.specs.Stepped.{each}
+use Rattle.mp_legal.specs.PlainState.{State}
+use Rattle.mp_legal.specs.PlainFinish.{finished}
+use Rattle.mp_legal.specs.Stepped.{each}
 use Rattle.mp_run.specs.Engine.{state_of, AreSent}
 use Rattle.mp_run.proofs.Steps.{continues_first, continues_next, continues_last}
 use Rattle.mp_run.proofs.Standing.{sent_rest}

@@ -1,6 +1,6 @@
 use Rattle.std.proofs.Common.{ℕ, [], drop}
-use Rattle.mp_run.specs.PlainFinish.{finished}
-use Rattle.mp_run.specs.Stepped.{each}
+use Rattle.mp_legal.specs.PlainFinish.{finished}
+use Rattle.mp_legal.specs.Stepped.{each}
 use Rattle.mp_run.specs.Engine.{state_of, IsReady, AreSent}
 use Rattle.mp_run.proofs.Steps.{Continues}
 use Rattle.mp_run.proofs.engine.Engine.finish_each.Given as goal

@@ -4,7 +4,7 @@ use Rattle.std.proofs.lemmas.List.{get_or_read}
 use Rattle.std.proofs.lemmas.Result.{on_ok_weaker}
 use Rattle.mp_words.specs.declared.flight.Flight.{Flight}
 use Rattle.mp_run.specs.Engine.{state_of, finishes_line, Does}
-use Rattle.mp_run.specs.PlainLine.{flights_of, flights_with}
+use Rattle.mp_legal.specs.PlainLine.{flights_of, flights_with}
 use Rattle.mp_run.proofs.Ends.{sent_of, there_with, sound_each}
 use Rattle.mp_run.proofs.engine.Engine.finish_request.Goals as goal
 

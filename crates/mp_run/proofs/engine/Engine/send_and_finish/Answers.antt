@@ -1,14 +1,14 @@
 use Rattle.std.proofs.Common.{◌≡◌, ◌∙◌, [], get_or, ap, sym, refl, arith}
 use Rattle.std.specs.List.{list_any}
 use Rattle.std.proofs.lemmas.List.{get_or_read}
-use Rattle.mp_run.specs.Drain.{sends_and_finishes, is_sent}
+use Rattle.mp_legal.specs.Drain.{sends_and_finishes, is_sent}
 use Rattle.mp_run.specs.Engine.{state_of, Does}
-use Rattle.mp_run.specs.Inputs.{inputs_of}
-use Rattle.mp_run.specs.PlainFinish.{finished}
-use Rattle.mp_run.specs.PlainSubmit.{submitted}
-use Rattle.mp_run.specs.PlainLine.{flights_of}
+use Rattle.mp_legal.specs.Inputs.{inputs_of}
+use Rattle.mp_legal.specs.PlainFinish.{finished}
+use Rattle.mp_legal.specs.PlainSubmit.{submitted}
+use Rattle.mp_legal.specs.PlainLine.{flights_of}
 use Rattle.mp_run.specs.Sound.{IsSound}
-use Rattle.mp_run.specs.Stepped.{each, and_then}
+use Rattle.mp_legal.specs.Stepped.{each, and_then}
 use Rattle.mp_run.proofs.Tries.{sound_submit}
 use Rattle.mp_run.proofs.Ends.{sent_of, there_of}
 use Rattle.mp_run.proofs.FinishLines.{does_same}

@@ -2,11 +2,11 @@ use Rattle.std.proofs.Common.{◌≡◌, ◌∙◌, ◌||◌, ◌+◌, ◌∷◌
 use Rattle.std.specs.List.{list_any}
 use Rattle.std.proofs.lemmas.List.{drop_more}
 use Rattle.std.proofs.lemmas.List.Folds.{list_any-append}
-use Rattle.mp_run.specs.Drain.{sends_and_finishes, is_sent}
+use Rattle.mp_legal.specs.Drain.{sends_and_finishes, is_sent}
 use Rattle.mp_run.specs.Engine.{state_of}
-use Rattle.mp_run.specs.Inputs.{inputs_of}
-use Rattle.mp_run.specs.PlainState.{State}
-use Rattle.mp_run.specs.Stepped.{Stepped, each}
+use Rattle.mp_legal.specs.Inputs.{inputs_of}
+use Rattle.mp_legal.specs.PlainState.{State}
+use Rattle.mp_legal.specs.Stepped.{Stepped, each}
 use Rattle.mp_run.proofs.Steps.{continues_next}
 use Rattle.mp_run.proofs.Rounds.{sends_sound}
 use Rattle.mp_run.proofs.engine.Engine.send_each.Goals as goal

@@ -1,10 +1,10 @@
 use Rattle.std.proofs.Common.{◌≡◌, ◌||◌, drop}
 use Rattle.std.specs.List.{list_any}
-use Rattle.mp_run.specs.Drain.{sends_and_finishes, is_sent}
+use Rattle.mp_legal.specs.Drain.{sends_and_finishes, is_sent}
 use Rattle.mp_run.specs.Engine.{state_of, IsReady}
-use Rattle.mp_run.specs.Inputs.{inputs_of}
+use Rattle.mp_legal.specs.Inputs.{inputs_of}
 use Rattle.mp_run.specs.Sound.{IsSound}
-use Rattle.mp_run.specs.Stepped.{each}
+use Rattle.mp_legal.specs.Stepped.{each}
 use Rattle.mp_run.proofs.Steps.{Continues}
 use Rattle.mp_run.proofs.engine.Engine.send_each.Given as goal
 

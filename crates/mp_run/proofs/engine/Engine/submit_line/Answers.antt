@@ -2,10 +2,10 @@ use Rattle.std.proofs.Common.{◌≡◌, ◌<◌, ◌∷◌, ◌++◌, [], List,
 use Rattle.mp_record.specs.declared.event.Event.{Event}
 use Rattle.mp_record.specs.declared.event.Event.TheVariants.{At}
 use Rattle.mp_record.specs.declared.event.Said.TheVariants as said
-use Rattle.mp_run.specs.Inputs.{inputs_of}
+use Rattle.mp_legal.specs.Inputs.{inputs_of}
 use Rattle.mp_words.specs.declared.trying.Outcome.TheVariants as outcome
-use Rattle.mp_run.specs.PlainLine.{flights_of}
-use Rattle.mp_run.specs.Numbers.{has_flight, standing}
+use Rattle.mp_legal.specs.PlainLine.{flights_of}
+use Rattle.mp_legal.specs.Numbers.{has_flight, standing}
 use Rattle.mp_run.specs.Engine.{state_of}
 use Rattle.mp_run.specs.Sound.{IsSound}
 use Rattle.mp_run.proofs.Changes.{has_middle, not_true}
@@ -18,14 +18,14 @@ pub submit-requires-clause-there : goal.submit-requires-clause-there
 submit-requires-clause-there c =
     let s = state_of c.args.self.now in
     let low : c.args.req < 65536 = omega (arith, c.get-number.ensures.number, c.get-number.ensures.below) in
-    let sound : IsSound (record s { requests = c.add.new.self.asked; notes = c.add.new.self.noted }) (c.args.req ∷ []) = rw (c.in_ok-add.ensures.added, c.in_ok-add.ensures.noted) (sound_add s c.args.req c.args.node c.requires.sound c.requires.fresh low) in
+    let sound : IsSound (record s { requests = c.add.new.self.asked; reads = c.add.new.self.noted }) (c.args.req ∷ []) = rw (c.in_ok-add.ensures.added, c.in_ok-add.ensures.noted) (sound_add s c.args.req c.args.node c.requires.sound c.requires.fresh low) in
     (sound.waits c.args.req (has_middle s.waiting [] c.args.req)).1
 
 pub submit-requires-clause-waiting : goal.submit-requires-clause-waiting
 submit-requires-clause-waiting c =
     let s = state_of c.args.self.now in
     let low : c.args.req < 65536 = omega (arith, c.get-number.ensures.number, c.get-number.ensures.below) in
-    let sound : IsSound (record s { requests = c.add.new.self.asked; notes = c.add.new.self.noted }) (c.args.req ∷ []) = rw (c.in_ok-add.ensures.added, c.in_ok-add.ensures.noted) (sound_add s c.args.req c.args.node c.requires.sound c.requires.fresh low) in
+    let sound : IsSound (record s { requests = c.add.new.self.asked; reads = c.add.new.self.noted }) (c.args.req ∷ []) = rw (c.in_ok-add.ensures.added, c.in_ok-add.ensures.noted) (sound_add s c.args.req c.args.node c.requires.sound c.requires.fresh low) in
     (sound.waits c.args.req (has_middle s.waiting [] c.args.req)).0
 
 pub submit-requires-clause-apart : goal.submit-requires-clause-apart
@@ -33,7 +33,7 @@ submit-requires-clause-apart c =
     let s = state_of c.args.self.now in
     let req = c.args.req in
     let low : req < 65536 = omega (arith, c.get-number.ensures.number, c.get-number.ensures.below) in
-    let sound : IsSound (record s { requests = c.add.new.self.asked; notes = c.add.new.self.noted }) (req ∷ []) = rw (c.in_ok-add.ensures.added, c.in_ok-add.ensures.noted) (sound_add s req c.args.node c.requires.sound c.requires.fresh low) in
+    let sound : IsSound (record s { requests = c.add.new.self.asked; reads = c.add.new.self.noted }) (req ∷ []) = rw (c.in_ok-add.ensures.added, c.in_ok-add.ensures.noted) (sound_add s req c.args.node c.requires.sound c.requires.fresh low) in
     not_true (has_flight req (flights_of c.args.lane s))
     (λ flies. let one : standing req c.add.new.self.asked ≡ outcome.Sent = sound.sent c.args.lane req flies in
     let two : standing req c.add.new.self.asked ≡ outcome.Waiting = (sound.waits req (has_middle s.waiting [] req)).0 in cc)
@@ -43,8 +43,8 @@ returns-clause-sound c =
     let s = state_of c.args.self.now in
     let req = c.args.req in
     let low : req < 65536 = omega (arith, c.get-number.ensures.number, c.get-number.ensures.below) in
-    let sound : IsSound (record s { requests = c.add.new.self.asked; notes = c.add.new.self.noted }) (req ∷ []) = rw (c.in_ok-add.ensures.added, c.in_ok-add.ensures.noted) (sound_add s req c.args.node c.requires.sound c.requires.fresh low) in
-    rw c.in_ok-submit.ensures.does.state (sound_submit c.args.world.now.topology.near c.args.lane req (record s { requests = c.add.new.self.asked; notes = c.add.new.self.noted }) [] (omega (arith, c.get-lane.ensures.number, c.get-lane.ensures.below, c.requires.ready.lanes)) sound)
+    let sound : IsSound (record s { requests = c.add.new.self.asked; reads = c.add.new.self.noted }) (req ∷ []) = rw (c.in_ok-add.ensures.added, c.in_ok-add.ensures.noted) (sound_add s req c.args.node c.requires.sound c.requires.fresh low) in
+    rw c.in_ok-submit.ensures.does.state (sound_submit c.args.world.now.topology.near c.args.lane req (record s { requests = c.add.new.self.asked; reads = c.add.new.self.noted }) [] (omega (arith, c.get-lane.ensures.number, c.get-lane.ensures.below, c.requires.ready.lanes)) sound)
 
 pub returns-clause-does : goal.returns-clause-does
 returns-clause-does c =

@@ -1,7 +1,7 @@
 use Rattle.std.proofs.Common.{Some, refl}
 use Rattle.std.proofs.lemmas.Result.{on_ok_weaker}
-use Rattle.mp_run.specs.PlainLine.{turn_step, flights_of, flights_with}
-use Rattle.mp_run.specs.Inputs.{inputs_of}
+use Rattle.mp_legal.specs.PlainLine.{turn_step, flights_of, flights_with}
+use Rattle.mp_legal.specs.Inputs.{inputs_of}
 use Rattle.mp_run.specs.Engine.{state_of, finishes_line}
 use Rattle.mp_script.specs.declared.script.Line.TheVariants as line
 use Rattle.mp_run.proofs.SubmitLines.{submit_step}

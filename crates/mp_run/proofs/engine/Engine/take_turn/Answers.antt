@@ -1,7 +1,7 @@
 use Rattle.std.proofs.Common.{◌∙◌, ap, refl}
 use Rattle.std.proofs.lemmas.Result.{on_ok_weaker}
-use Rattle.mp_run.specs.PlainLine.{turn_step, flights_of}
-use Rattle.mp_run.specs.Inputs.{inputs_of}
+use Rattle.mp_legal.specs.PlainLine.{turn_step, flights_of}
+use Rattle.mp_legal.specs.Inputs.{inputs_of}
 use Rattle.mp_run.specs.Engine.{state_of, finishes_line}
 use Rattle.mp_run.proofs.FinishLines.{end_step, does_same}
 use Rattle.mp_run.proofs.engine.Engine.take_turn.Goals as goal

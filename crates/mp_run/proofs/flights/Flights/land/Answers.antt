@@ -2,7 +2,7 @@ use Rattle.std.proofs.Common.{◌≡◌, ◌==◌, not, [], filter, set, None, a
 use Rattle.std.specs.Option.{option_to_list}
 use Rattle.std.proofs.lemmas.List.{nil_from_length}
 use Rattle.mp_words.specs.declared.flight.Flight.{Flight}
-use Rattle.mp_run.specs.PlainLine.{flights_with}
+use Rattle.mp_legal.specs.PlainLine.{flights_with}
 use Rattle.mp_run.specs.Flying.{flying, flight_at}
 use Rattle.mp_run.proofs.Indexed.{finds, lands, placed_none, none_with, without_none, flies_within, lands-length}
 use Rattle.mp_run.proofs.flights.Flights.land.Goals as goal

@@ -2,7 +2,7 @@ use Rattle.std.proofs.Common.{◌≡◌, ℕ, ◌==◌, cond, ◌+◌, ◌++◌,
 use Rattle.std.specs.Prelude.{slice_index}
 use Rattle.std.proofs.lemmas.List.{length-append}
 use Rattle.mp_words.specs.declared.flight.Flight.{Flight}
-use Rattle.mp_run.specs.Numbers.{has_flight}
+use Rattle.mp_legal.specs.Numbers.{has_flight}
 use Rattle.mp_run.specs.Indexed.{ArePlaced}
 use Rattle.mp_run.specs.Flying.{flying}
 use Rattle.mp_run.proofs.Indexed.{placed_same, placed_put, placed_more, flying-append, flying-length-le}

@@ -3,8 +3,9 @@ use Rattle.std.specs.Prelude.{slice_index}
 use Rattle.std.proofs.lemmas.List.{length-map, map-append}
 use Rattle.mp_words.specs.Request.{Asked, asked_of}
 use Rattle.mp_run.specs.RequestsView.{RequestsView}
-use Rattle.mp_run.specs.Numbers.{has_req}
+use Rattle.mp_legal.specs.Numbers.{has_req}
 use Rattle.mp_run.specs.Indexed.{AreIndexed}
+use Rattle.mp_run.specs.Notes.{reads_in}
 use Rattle.mp_run.proofs.NoteLists.{is_noted_more}
 use Rattle.mp_run.proofs.Indexed.{indexed_same, indexed_put, indexed_more}
 use Rattle.mp_run.proofs.requests.Requests.add.Goals as goal
@@ -28,7 +29,7 @@ invariant_of-self-2 c =
     ap (slice_index c.put.new.self) c.make.ensures.id ∙ c.put.ensures req ∙ rw (eq-eqb req req refl) (omega (arith, c.len.ensures, ap length c.reserve.ensures.items, length-map items asked_of)) in
     rw (c.push_reserved.ensures.items, c.reserve.ensures.items) (record {
       indexed = rw map-append (indexed_more c.put.new.self 0 all (asked_of new) put at);
-      noted = is_noted_more items c.self.inside.noted.made new (ap (λ n. has_req n all) c.make.ensures.id ∙ fresh) (rw c.make.ensures.tries refl) c.self.invariant.noted;
+      noted = is_noted_more items (reads_in c.self.inside.noted.made) new (ap (λ n. has_req n all) c.make.ensures.id ∙ fresh) (rw c.make.ensures.tries refl) c.self.invariant.noted;
     })
 
 pub returns-clause-added : goal.returns-clause-added

@@ -2,7 +2,7 @@ use Rattle.std.proofs.Common.{◌≡◌, ◌∙◌, ap, true, map, arith}
 use Rattle.std.proofs.lemmas.List.{length-map}
 use Rattle.mp_words.specs.Request.{asked_of}
 use Rattle.mp_run.specs.RequestsView.{RequestsView}
-use Rattle.mp_run.specs.Numbers.{has_req, asked_at}
+use Rattle.mp_legal.specs.Numbers.{has_req, asked_at}
 use Rattle.mp_run.proofs.Indexed.{stands, stands_at, Stands}
 use Rattle.mp_run.proofs.requests.Requests.at.Goals as goal
 

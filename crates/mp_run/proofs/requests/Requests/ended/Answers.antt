@@ -2,10 +2,11 @@ use Rattle.std.proofs.Common.{◌≡◌, ◌∙◌, ap, true, map, take, None, a
 use Rattle.std.specs.List.{last_or}
 use Rattle.std.proofs.lemmas.List.{length-map}
 use Rattle.mp_words.specs.Request.{asked_of, outcome_of, Asked}
-use Rattle.mp_run.specs.PlainState.{with_tries}
-use Rattle.mp_run.specs.PlainFinish.{ended_tries}
+use Rattle.mp_legal.specs.PlainState.{with_tries}
+use Rattle.mp_legal.specs.PlainFinish.{ended_tries}
 use Rattle.mp_run.specs.RequestsView.{RequestsView}
-use Rattle.mp_run.specs.Numbers.{has_req, asked_at}
+use Rattle.mp_legal.specs.Numbers.{has_req, asked_at}
+use Rattle.mp_run.specs.Notes.{reads_in}
 use Rattle.mp_run.proofs.NoteLists.{is_noted_kept}
 use Rattle.mp_run.proofs.Indexed.{stands, stands_at, stands_set, indexed_set, Stands}
 use Rattle.mp_run.proofs.requests.Requests.ended.Goals as goal
@@ -33,7 +34,7 @@ invariant_of-self c =
     let new = c.end_try.new.request in
     record {
       indexed = indexed_set c.self.inside.index 0 c.at-place.result all old new c.index_mut.ensures.value c.end_try.ensures.id c.self.invariant.indexed;
-      noted = is_noted_kept c.at-place.result all c.self.inside.noted.made old new c.index_mut.ensures.value c.end_try.ensures.id c.end_try.ensures.noted c.self.invariant.noted;
+      noted = is_noted_kept c.at-place.result all (reads_in c.self.inside.noted.made) old new c.index_mut.ensures.value c.end_try.ensures.id c.end_try.ensures.noted c.self.invariant.noted;
     }
 
 pub returns-clause-ended : goal.returns-clause-ended

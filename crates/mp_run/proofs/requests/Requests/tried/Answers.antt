@@ -1,13 +1,14 @@
-use Rattle.std.proofs.Common.{◌≡◌, ◌<◌, ◌∙◌, ◌++◌, ◌∷◌, [], ap, subst, true, map, length, set, List, None, arith}
+use Rattle.std.proofs.Common.{◌≡◌, ◌<◌, ◌∙◌, ◌++◌, ◌∷◌, [], ap, subst, true, map, length, set, ℕ, List, None, arith}
 use Rattle.std.specs.List.{last_or}
 use Rattle.std.proofs.lemmas.List.{length-map}
 use Rattle.mp_words.specs.Request.{asked_of, tried_of, outcome_of, Asked, Tried}
-use Rattle.mp_run.specs.PlainState.{with_tries}
+use Rattle.mp_legal.specs.PlainState.{with_tries}
 use Rattle.mp_run.specs.RequestsView.{RequestsView}
-use Rattle.mp_run.specs.Numbers.{has_req, asked_at}
-use Rattle.mp_run.specs.Notes.{IsNoted}
+use Rattle.mp_legal.specs.Numbers.{has_req, asked_at}
+use Rattle.mp_legal.specs.TryRead.{TryRead, read_of}
+use Rattle.mp_run.specs.Notes.{IsNoted, reads_in}
 use Rattle.mp_run.proofs.Chosen.{asked_req}
-use Rattle.mp_run.proofs.NoteLists.{is_noted_kept, is_noted_tried}
+use Rattle.mp_run.proofs.NoteLists.{is_noted_kept, is_noted_tried, reads_more}
 use Rattle.mp_run.proofs.Indexed.{stands, stands_at, stands_set, indexed_set, Stands}
 use Rattle.mp_run.proofs.requests.Requests.tried.Goals as goal
 
@@ -42,13 +43,13 @@ invariant_of-self c =
     let new = c.append_try.new.request in
     record {
       indexed = indexed_set c.self.inside.index 0 c.at-place.result all old new c.index_mut.ensures.value c.append_try.ensures.id c.self.invariant.indexed;
-      noted = is_noted_kept c.at-place.result all c.self.inside.noted.made old new c.index_mut.ensures.value c.append_try.ensures.id c.in_err-append_try.ensures.kept.1 c.self.invariant.noted;
+      noted = is_noted_kept c.at-place.result all (reads_in c.self.inside.noted.made) old new c.index_mut.ensures.value c.append_try.ensures.id c.in_err-append_try.ensures.kept.1 c.self.invariant.noted;
     }
 
 pub invariant_of-self-2 : goal.invariant_of-self-2
 invariant_of-self-2 c =
     let all = c.self.inside.all.items in
-    let made = c.self.inside.noted.made in
+    let made : List (ℕ × TryRead) = reads_in c.self.inside.noted.made in
     let req = c.args.req in
     let place = c.at-place.result in
     let old = c.index_mut.result.now in
@@ -57,11 +58,11 @@ invariant_of-self-2 c =
     let it : Stands c.self.inside.index 0 req (map asked_of all) = stands c.self.inside.index 0 req (map asked_of all) c.self.invariant.indexed has_it in
     let number : old.id ≡ req = ap (λ (a : Asked). a.req) (stands_at c.self.inside.index req all place old it c.at-place.ensures c.index_mut.ensures.value) ∙ asked_req req (map asked_of all) in
     let within : place < length all = omega (arith, it.is, it.within, length-map all asked_of, c.at-place.ensures) in
-    let noted = is_noted_tried c.self.inside.index place all made old new c.args.made.note c.self.invariant.indexed within c.index_mut.ensures.value c.append_try.ensures.id c.in_ok-append_try.ensures.noted c.self.invariant.noted in
-    rw c.note.ensures (record {
+    let noted = is_noted_tried c.self.inside.index place all made old new (read_of c.args.made.note) c.self.invariant.indexed within c.index_mut.ensures.value c.append_try.ensures.id c.in_ok-append_try.ensures.noted c.self.invariant.noted in
+    rw c.note.ensures (rw (reads_more c.self.inside.noted.made req c.args.made.note) (record {
       indexed = indexed_set c.self.inside.index 0 place all old new c.index_mut.ensures.value c.append_try.ensures.id c.self.invariant.indexed;
-      noted = subst (λ n. IsNoted (made ++ (n, c.args.made.note) ∷ []) (set all place new)) number noted;
-    })
+      noted = subst (λ n. IsNoted (made ++ (n, read_of c.args.made.note) ∷ []) (set all place new)) number noted;
+    }))
 
 pub returns-clause-tried : goal.returns-clause-tried
 returns-clause-tried c =

@@ -1,0 +1,50 @@
+-- A worked case: remove reap add.
+use Rattle.std.specs.Prelude.{ℕ, List, [], ◌∷◌, ◌++◌, codes, None}
+use Rattle.mp_words.specs.declared.row.CState.TheVariants as cstate
+use Rattle.mp_words.specs.declared.row.Policy.TheVariants as policy
+use Rattle.mp_script.specs.declared.script.Line.TheVariants as line
+use Rattle.mp_script.specs.declared.script.LanePlan.{LanePlan}
+use Rattle.mp_legal.specs.PlainCall.{Inputs}
+use Rattle.mp_legal.specs.CaseParts.{near_and_far, keeper_lane}
+
+-- the inputs of the case
+abbrev pub inputs : Inputs
+inputs = near_and_far policy.Numa cstate.Live
+
+-- the lanes of its script
+abbrev pub lanes : List LanePlan
+lanes =
+    keeper_lane 2 (line.Submit 0 0 ∷ line.Remove 0 ∷ line.Reap ∷ line.FinishAll ∷ line.Reap ∷ line.Add 0 None
+    ∷ line.Submit 1 0 ∷ []) ∷ []
+
+-- the text of the run
+abbrev pub text : List ℕ
+text =
+    codes "anamp 1\n"
+    ++ codes "head 1 numa\n"
+    ++ codes "row 0 0 open a live optimized r\n"
+    ++ codes "row 0 1 0.3 a live optimized m\n"
+    ++ codes "row 0 2 0.6 free\n"
+    ++ codes "row 0 3 0.7 a live optimized r\n"
+    ++ codes "row 1 0 open b live optimized r\n"
+    ++ codes "order 0 open numa 0,1\n"
+    ++ codes "order 1 0.4 numa 1\n"
+    ++ codes "order 2 0.7 numa 1,0\n"
+    ++ codes "keeper 0\n"
+    ++ codes "at 2 submit\n"
+    ++ codes "try 0 1 sent 0 0\n"
+    ++ codes "at 3 marked 0 1\n"
+    ++ codes "at 4 again 0 depth 1\n"
+    ++ codes "at 5 finish 1\n"
+    ++ codes "fin 0 1 0000 done\n"
+    ++ codes "at 6 freed 0 2 2\n"
+    ++ codes "at 7 added 0 3 2\n"
+    ++ codes "at 8 submit\n"
+    ++ codes "try 1 1 sent 0 3\n"
+    ++ codes "at 0 finish 1\n"
+    ++ codes "fin 1 1 0000 done\n"
+    ++ codes "drain\n"
+    ++ codes "at 0 requeue 0\n"
+    ++ codes "request 0 0 a done 0000 1\n"
+    ++ codes "request 1 0 a done 0000 1\n"
+    ++ codes "end\n"

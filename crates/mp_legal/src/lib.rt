@@ -1,0 +1,6 @@
+//! The run of a script on one thread as definitions, worked cases of it, and the laws that calls made of steps are its
+//! steps. Everything here is a law: no function does anything.
+#![tactic(auto)]
+
+pub mod calls;
+pub mod cases;

@@ -1,0 +1,303 @@
+-- The words of the opening are packed and lawful, and have room.
+use Rattle.std.proofs.Common.{◌≡◌, ℕ, zero, suc, ◌+◌, ◌*◌, ◌-◌, ◌<◌, ◌≤◌, ◌==◌, Bool, true, false, true≢false, not, ◌||◌, List, [], ◌∷◌, ◌++◌, length, take, map, replicate, get_or, set, Option, Some, None, Result, Ok, Err, refl, sym, ap, subst, ◌∙◌, arith, if◌then◌else◌}
+use Rattle.std.specs.Prelude.{IfSome, All, slice_get}
+use Rattle.std.specs.List.{range_with_len}
+use Rattle.std.proofs.lemmas.Bool.Decides.{nat_tests}
+use Rattle.std.proofs.lemmas.List.{append-nil, get_or_default, length-append, length-take-le, map-set, take_all}
+use Rattle.std.proofs.lemmas.List.FromFn.{length-range_with_len}
+use Rattle.mp_words.specs.declared.row.Row.{Row}
+use Rattle.mp_words.specs.declared.row.Policy.{Policy}
+use Rattle.mp_words.specs.declared.order.Order.{Order}
+use Rattle.mp_words.specs.Effect.{free_row, IsState}
+use Rattle.mp_words.specs.Facts.{IsRow, IsOrder}
+use Rattle.mp_words.specs.Order.{order_of}
+use Rattle.mp_words.specs.Row.{is_given}
+use Rattle.mp_words.specs.RowWord.{is_no_row, row_in, row_of_word}
+use Rattle.mp_words.specs.OrderWord.{is_no_order, order_in, order_of_word}
+use Rattle.mp_words.specs.declared.words.Side.{Side}
+use Rattle.mp_words.specs.declared.words.Words.{Words}
+use Rattle.mp_page.specs.declared.page.Page.{Page}
+use Rattle.mp_page.specs.declared.page.PageError.{PageError}
+use Rattle.mp_page.specs.Gifts.{gift_of, stated_gift, state_for, page_at}
+use Rattle.mp_page.specs.Page.{page_in}
+use Rattle.mp_topology.specs.declared.topology.Controller.{Controller}
+use Rattle.mp_topology.specs.Facts.{IsTopology}
+use Rattle.mp_script.specs.declared.script.World.{World}
+use Rattle.mp_core.specs.Memory.{row_at, no_side}
+use Rattle.mp_core.specs.Status.{has, lists}
+use Rattle.mp_core.specs.Unpacked.{unpacked}
+use Rattle.mp_plain.specs.Packed.{IsPacked}
+use Rattle.mp_rule.specs.Lawful.{IsLawful, HasRoom}
+use Rattle.mp_legal.specs.PlainCall.{Inputs}
+use Rattle.mp_legal.specs.Inputs.{inputs_of}
+use Rattle.mp_run.specs.FirstMemory.{memory_of}
+use Rattle.mp_legal.specs.Opening.{page_or_empty, named_page, opening_row, opening_rows, opening}
+
+-- what the law of pages says
+abbrev pub PagesState : Type 0
+PagesState = (max : ℕ) (bytes : List ℕ) (page : Page) (nsid : ℕ) → page_in max bytes ≡ Ok page → IfSome (state_for page nsid) (λ state. (1 ≤ state) × (state ≤ 15))
+
+-- each page that an opening path may have states an ANA state of a path, or none
+abbrev pub IsStatedIn : Inputs → Type 0
+IsStatedIn i = (page : Option ℕ) → IfSome (state_for (named_page i page) i.topology.nsid) IsState
+
+read_states : PagesState → (max : ℕ) (bytes : List ℕ) (nsid : ℕ) (r : Result Page PageError) → page_in max bytes ≡ r → IfSome (state_for (page_or_empty r) nsid) IsState
+read_states law max bytes nsid (Ok page) e = law max bytes page nsid e
+read_states law max bytes nsid (Err error) e = tt
+
+box_states : PagesState → (max : ℕ) (pages : List (List ℕ)) (nsid box : ℕ) → IfSome (state_for (page_or_empty (page_at (map (page_in max) pages) box)) nsid) IsState
+box_states law max [] nsid box = tt
+box_states law max (p ∷ pages) nsid zero = read_states law max p nsid (page_in max p) refl
+box_states law max (p ∷ pages) nsid (suc box) = box_states law max pages nsid box
+
+world_states : PagesState → (w : World) → IsStatedIn (inputs_of w)
+world_states law w None = tt
+world_states law w (Some box) = box_states law w.topology.anagrpmax w.pages w.topology.nsid box
+
+-- a gift is of an ANA state that a path may have
+stated_is : (ctrl : ℕ) (armed : Bool) (o : Option ℕ) → IfSome o IsState → IsState (stated_gift ctrl armed o).state
+stated_is ctrl armed None h = (omega arith, omega arith)
+stated_is ctrl armed (Some state) h = h
+
+gift_is : (nsid ctrl : ℕ) (ana : Bool) (page : Page) → IfSome (state_for page nsid) IsState → IsState (gift_of nsid ctrl (if ana then Some page else None)).state
+gift_is nsid ctrl false page h = (omega arith, omega arith)
+gift_is nsid ctrl true page h = stated_is ctrl _ (state_for page nsid) h
+
+-- how each row stands at the opening
+record IsFirst (row : Row) : Type 0 where
+  stored : IsRow row
+  unmarked : row.marked ≡ false
+  first : row.version ≡ 0
+
+free_first : IsFirst (free_row 0)
+free_first = record { stored = record { state = omega arith; free = λ e. refl }; unmarked = refl; first = refl }
+
+opened_first : (i : Inputs) → IsStatedIn i → (ctrl : ℕ) (c : Option Controller) → IsFirst (opening_row i ctrl c)
+opened_first i states ctrl None = free_first
+opened_first i states ctrl (Some c) =
+    let s = gift_is i.topology.nsid ctrl c.ana (named_page i c.page) (states c.page) in
+    record { stored = record { state = s.1; free = λ e. absurd (omega (arith, s.0, e)) }; unmarked = refl; first = refl }
+
+not_zero : (n : ℕ) → 1 ≤ n → not (n == 0) ≡ true
+not_zero n l = grind (arith, nat_tests)
+
+-- the path of a controller that is there has a slot
+opened_given : (i : Inputs) → IsStatedIn i → (ctrl place : ℕ) (cs : List Controller) → place < length cs → is_given (opening_row i ctrl (slice_get cs place)) ≡ true
+opened_given i states ctrl place [] l = absurd (omega arith)
+opened_given i states ctrl zero (c ∷ cs) l = not_zero _ (gift_is i.topology.nsid ctrl c.ana (named_page i c.page) (states c.page)).0
+opened_given i states ctrl (suc place) (c ∷ cs) l = opened_given i states ctrl place cs (omega arith)
+
+-- what holds of each opened row and of a free one holds of each row
+rows_each : (P : Row → Type 0) (f : ℕ → Row) (n k : ℕ) (cs : List ℕ) (s : ℕ) → P (free_row 0) → ((c : ℕ) → P (f c)) → P (get_or (take n (map f cs ++ replicate k (free_row 0))) s (free_row 0))
+rows_each P f zero k cs s free each = free
+rows_each P f (suc n) zero [] s free each = free
+rows_each P f (suc n) (suc k) [] zero free each = free
+rows_each P f (suc n) (suc k) [] (suc s) free each = rows_each P f n k [] s free each
+rows_each P f (suc n) k (c ∷ cs) zero free each = each c
+rows_each P f (suc n) k (c ∷ cs) (suc s) free each = rows_each P f n k cs s free each
+
+-- the row of each slot below the number of opened ones is an opened one
+rows_opened : (f : ℕ → Row) (n k : ℕ) (cs : List ℕ) (s : ℕ) → s < n → s < length cs → get_or (take n (map f cs ++ replicate k (free_row 0))) s (free_row 0) ≡ f (get_or cs s 0)
+rows_opened f zero k cs s low there = absurd (omega arith)
+rows_opened f (suc n) k [] s low there = absurd (omega arith)
+rows_opened f (suc n) k (c ∷ cs) zero low there = refl
+rows_opened f (suc n) k (c ∷ cs) (suc s) low there = rows_opened f n k cs s (omega arith) (omega arith)
+
+pub rows_length : (i : Inputs) → length (opening_rows i) ≡ 15
+rows_length i =
+    let opened : ℕ → Row = λ ctrl. opening_row i ctrl (slice_get i.topology.controllers ctrl) in
+    let all : List Row = map opened i.topology.opening ++ replicate 15 (free_row 0) in
+    let more : length all ≡ length (map opened i.topology.opening) + length (replicate 15 (free_row 0)) = length-append (map opened i.topology.opening) (replicate 15 (free_row 0)) in
+    let free : length (replicate 15 (free_row 0)) ≡ 15 = refl in
+    length-take-le 15 all (omega (arith, more, free))
+
+row_first : (i : Inputs) → IsStatedIn i → (s : ℕ) → IsFirst (get_or (opening_rows i) s (free_row 0))
+row_first i states s = rows_each IsFirst (λ ctrl. opening_row i ctrl (slice_get i.topology.controllers ctrl)) 15 15 i.topology.opening s free_first (λ c. opened_first i states c (slice_get i.topology.controllers c))
+
+-- a place of the list of the first slots has its own slot, and slot 0 past them
+slots_at : (m from n k i : ℕ) → i < m → i < n → get_or (take m (range_with_len from n ++ replicate k 0)) i 0 ≡ from + i
+slots_at zero from n k i low there = absurd (omega arith)
+slots_at (suc m) from zero k i low there = absurd (omega arith)
+slots_at (suc m) from (suc n) k zero low there = omega arith
+slots_at (suc m) from (suc n) k (suc i) low there = slots_at m (from + 1) n k i (omega arith) (omega arith) ∙ omega arith
+
+slots_past : (m from n k i : ℕ) → n ≤ i → get_or (take m (range_with_len from n ++ replicate k 0)) i 0 ≡ 0
+slots_past zero from n k i past = refl
+slots_past (suc m) from zero zero i past = refl
+slots_past (suc m) from zero (suc k) zero past = refl
+slots_past (suc m) from zero (suc k) (suc i) past = slots_past m from zero k i (omega arith)
+slots_past (suc m) from (suc n) k zero past = absurd (omega arith)
+slots_past (suc m) from (suc n) k (suc i) past = slots_past m (from + 1) n k i (omega arith)
+
+pub first_listed : (policy : Policy) (n : ℕ) → n ≤ 8 → IsOrder (order_of 0 policy (range_with_len 0 n))
+first_listed policy n few =
+    let len : length (range_with_len 0 n) ≡ n = length-range_with_len 0 n in
+    let zeros : List ℕ = replicate 8 0 in
+    let all : List ℕ = range_with_len 0 n ++ zeros in
+    let more : length all ≡ length (range_with_len 0 n) + length zeros = length-append (range_with_len 0 n) zeros in
+    let eight : length zeros ≡ 8 = refl in
+    record {
+      within = omega (arith, len, few);
+      places = length-take-le 8 all (omega (arith, more, eight));
+      distinct = λ i j a b e.
+          let at_i : get_or (take 8 all) i 0 ≡ 0 + i = slots_at 8 0 n 8 i (omega (arith, len, few, a)) (omega (arith, len, a)) in
+          let at_j : get_or (take 8 all) j 0 ≡ 0 + j = slots_at 8 0 n 8 j (omega (arith, len, few, b)) (omega (arith, len, b)) in
+          omega (arith, at_i, at_j, e);
+      past = λ i l. slots_past 8 0 n 8 i (omega (arith, len, l));
+    }
+
+is_same : (a b : ℕ) → (a == b) ≡ true → a ≡ b
+is_same a b e = grind (arith, nat_tests)
+
+-- only slots below their number are listed
+listed_below : (s len m from n k : ℕ) → len ≤ n → has s (take len (take m (range_with_len from n ++ replicate k 0))) ≡ true → s < from + n
+listed_below s zero m from n k few e = absurd (true≢false (sym e))
+listed_below s (suc len) zero from n k few e = absurd (true≢false (sym e))
+listed_below s (suc len) (suc m) from zero k few e = absurd (omega arith)
+listed_below s (suc len) (suc m) from (suc n) k few e = by_test (from == s) refl e (listed_below s len m (from + 1) n k (omega (arith, few)))
+  where
+    rest : List ℕ
+    rest = take len (take m (range_with_len (from + 1) n ++ replicate k 0))
+
+    by_test : (b : Bool) → (from == s) ≡ b → (b || has s rest) ≡ true → (has s rest ≡ true → s < (from + 1) + n) → s < from + suc n
+    by_test true is h below = let at : from ≡ s = is_same from s is in omega (arith, at)
+    by_test false is h below = let low : s < (from + 1) + n = below h in omega (arith, low)
+
+-- of so many of the same each is that
+same : {X : Type 0} → (n s : ℕ) (x : X) → get_or (replicate n x) s x ≡ x
+same zero s x = refl
+same (suc n) zero x = refl
+same (suc n) (suc s) x = same n s x
+
+-- What the opening is made of: few opening paths, of controllers that are there, and pages that state states.
+pub record IsOpened (i : Inputs) : Type 0 where
+  pub few : length i.topology.opening ≤ 8
+  pub there : All (λ ctrl. ctrl < length i.topology.controllers) i.topology.opening
+  pub states : IsStatedIn i
+
+pub world_opened : PagesState → (w : World) → IsTopology w.topology → IsOpened (inputs_of w)
+world_opened law w t = record { few = t.opening_most; there = t.opening_there; states = world_states law w }
+
+listed_given : (i : Inputs) → IsOpened i → (s : ℕ) → lists s (opening i).order ≡ true → is_given (row_at (memory_of (opening i)) s) ≡ true
+listed_given i o s e =
+    let n = length i.topology.opening in
+    let len : length (range_with_len 0 n) ≡ n = length-range_with_len 0 n in
+    let below : s < 0 + n = listed_below s (length (range_with_len 0 n)) 8 0 n 8 (omega (arith, len)) e in
+    let opened : ℕ → Row = λ ctrl. opening_row i ctrl (slice_get i.topology.controllers ctrl) in
+    let few = o.few in
+    let there : get_or i.topology.opening s 0 < length i.topology.controllers = o.there s 0 (omega (arith, below)) in
+    subst (λ (row : Row). is_given row ≡ true) (sym (rows_opened opened 15 15 i.topology.opening s (omega (arith, below, few)) (omega (arith, below))))
+    (opened_given i o.states (get_or i.topology.opening s 0) (get_or i.topology.opening s 0) i.topology.controllers there)
+
+abbrev some_slot : Option ℕ → Type 0
+some_slot None = ⊥
+some_slot (Some s) = Unit {0}
+
+none_some : {s : ℕ} → None ≡ Some s → ⊥
+none_some e = subst some_slot (sym e) tt
+
+pub opening_lawful : (i : Inputs) → IsOpened i → IsLawful (memory_of (opening i))
+opening_lawful i o = record {
+  sized = record { sides = refl; rows = rows_length i; depths = refl; currents = refl };
+  index = omega arith;
+  nobody = λ x. ap (λ (side : Side). side.inside) (same 2 x no_side);
+  idle = λ s. same 15 s 0;
+  given = listed_given i o;
+  off = λ s e. absurd (true≢false (sym e ∙ (row_first i o.states s).unmarked));
+  named = λ n s l e. absurd (none_some (sym (same 8 n None) ∙ e));
+  rows = λ s. (row_first i o.states s).stored;
+  order = first_listed i.topology.policy (length i.topology.opening) o.few;
+}
+
+pub opening_room : (i : Inputs) → IsOpened i → HasRoom (memory_of (opening i)) (17 * 2097152)
+opening_room i o = record {
+  entries = λ x. let e : (get_or (replicate 2 no_side) x no_side).entries ≡ 0 = ap (λ (side : Side). side.entries) (same 2 x no_side) in omega (arith, e);
+  rows = λ s. let e = (row_first i o.states s).first in omega (arith, e);
+  order = omega arith;
+}
+
+-- words that say rows
+
+passed : {X : Type 0} → (b : Bool) (x y : X) → (if b then None else Some x) ≡ Some y → (b ≡ false) × (x ≡ y)
+passed true x y e = absurd (cc)
+passed false x y e = (refl, cc)
+
+some_map : (rows : List Row) (s : ℕ) → get_or (map Some rows) s (Some (free_row 0)) ≡ Some (get_or rows s (free_row 0))
+some_map [] s = refl
+some_map (r ∷ rows) zero = refl
+some_map (r ∷ rows) (suc s) = some_map rows s
+
+word_map : (ws : List ℕ) (s : ℕ) → get_or (map row_of_word ws) s (Some (free_row 0)) ≡ row_of_word (get_or ws s 0)
+word_map [] s = refl
+word_map (w ∷ ws) zero = refl
+word_map (w ∷ ws) (suc s) = word_map ws s
+
+pub rows_packed : (ws : List ℕ) (rows : List Row) → map row_of_word ws ≡ map Some rows → (s : ℕ) → is_no_row (get_or ws s 0) ≡ false
+rows_packed ws rows e s =
+    let w = get_or ws s 0 in
+    (passed (is_no_row w) (row_in w) (get_or rows s (free_row 0)) (sym (word_map ws s) ∙ ap (λ (os : List (Option Row)). get_or os s (Some (free_row 0))) e ∙ some_map rows s)).0
+
+abbrev first_of : List (Option Row) → Option Row
+first_of [] = None
+first_of (o ∷ os) = o
+
+abbrev rest_of : List (Option Row) → List (Option Row)
+rest_of [] = []
+rest_of (o ∷ os) = os
+
+abbrev some_row : Option Row → Type 0
+some_row None = ⊥
+some_row (Some row) = Unit {0}
+
+by_first : {row : Row} → None ≡ Some row → ⊥
+by_first e = subst some_row (sym e) tt
+
+by_len : {n : ℕ} → suc n ≡ 0 → ⊥
+by_len e = absurd (omega arith)
+
+pub rows_in : (ws : List ℕ) (rows : List Row) → map row_of_word ws ≡ map Some rows → map row_in ws ≡ rows
+rows_in [] [] e = refl
+rows_in [] (r ∷ rows) e = absurd (by_first (ap first_of e))
+rows_in (w ∷ ws) [] e = absurd (by_len (ap length e))
+rows_in (w ∷ ws) (r ∷ rows) e = λ i. (passed (is_no_row w) (row_in w) r (ap first_of e)).1 i ∷ rows_in ws rows (ap rest_of e) i
+
+-- one more word
+pub one_more : (rows : List Row) (s r : ℕ) (z y : Option Row) → s < length rows → Some (get_or rows s (free_row 0)) ≡ y
+    → set (map Some (take s rows) ++ replicate (suc r) z) s y ≡ map Some (take (suc s) rows) ++ replicate r z
+one_more [] s r z y l is = absurd (omega arith)
+one_more (row ∷ rows) zero r z y l is = ap (λ (o : Option Row). o ∷ replicate r z) (sym is)
+one_more (row ∷ rows) (suc s) r z y l is = ap (λ (os : List (Option Row)). Some row ∷ os) (one_more rows s r z y (omega arith) is)
+
+pub words_more : (rows : List Row) (words : List ℕ) (s w : ℕ) (row : Row) → s < length rows → length rows ≡ 15 → row ≡ get_or rows s row → row_of_word w ≡ Some row
+    → map row_of_word words ≡ map Some (take s rows) ++ replicate (15 - s) (Some (free_row 0)) → map row_of_word (set words s w) ≡ map Some (take (s + 1) rows) ++ replicate (15 - (s + 1)) (Some (free_row 0))
+words_more rows words s w row l len at is so_far =
+    let left : 15 - s ≡ suc (15 - (s + 1)) = omega (arith, l, len) in
+    let next : suc s ≡ s + 1 = omega arith in
+    map-set row_of_word words s w
+    ∙ (λ j. set (so_far j) s (is j))
+    ∙ (λ j. set (map Some (take s rows) ++ replicate (left j) (Some (free_row 0))) s (Some row))
+    ∙ one_more rows s (15 - (s + 1)) (Some (free_row 0)) (Some row) l (ap Some (get_or_default rows s (free_row 0) row l ∙ sym at))
+    ∙ (λ j. map Some (take (next j) rows) ++ replicate (15 - (s + 1)) (Some (free_row 0)))
+
+pub words_all : (rows : List Row) (words : List ℕ) (s : ℕ) → length rows ≤ s → length rows ≡ 15 → s ≤ length rows → map row_of_word words ≡ map Some (take s rows) ++ replicate (15 - s) (Some (free_row 0))
+    → map row_of_word words ≡ map Some rows
+words_all rows words s all len most so_far =
+    let none : 15 - s ≡ 0 = omega (arith, all, len) in
+    so_far
+    ∙ (λ j. map Some (take s rows) ++ replicate (none j) (Some (free_row 0)))
+    ∙ append-nil (map Some (take s rows))
+    ∙ ap (map Some) (take_all s rows (omega (arith, all)))
+
+-- the words of the table that a run begins with
+abbrev first_words : ℕ → List ℕ → Words
+first_words order rows = record { index = 0; sides = replicate 2 0; order = order; rows = rows; depths = replicate 15 0; currents = replicate 8 0 }
+
+pub words_say : (i : Inputs) (w : ℕ) (ws : List ℕ) (order : Order) (rows : List Row) → order_of_word w ≡ Some order → order ≡ (opening i).order → map row_of_word ws ≡ map Some rows → rows ≡ opening_rows i
+    → unpacked (first_words w ws) ≡ memory_of (opening i)
+words_say i w ws order rows a b c d = λ j. record (memory_of (opening i)) { order = ((passed (is_no_order w) (order_in w) order a).1 ∙ b) j; rows = (rows_in ws rows c ∙ d) j }
+
+pub words_packed : (w : ℕ) (ws : List ℕ) (order : Order) (rows : List Row) → order_of_word w ≡ Some order → map row_of_word ws ≡ map Some rows → IsPacked (first_words w ws)
+words_packed w ws order rows a c = record { rows = λ s l. rows_packed ws rows c s; order = (passed (is_no_order w) (order_in w) order a).0 }
+
+pub rows_stored : (i : Inputs) → IsOpened i → (rows : List Row) → rows ≡ opening_rows i → All IsRow rows
+rows_stored i o rows is k d l = subst IsRow (get_or_default rows k (free_row 0) d l) (subst (λ (rs : List Row). IsRow (get_or rs k (free_row 0))) (sym is) (row_first i o.states k).stored)

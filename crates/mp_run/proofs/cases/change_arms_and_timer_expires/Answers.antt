@@ -1,7 +1,0 @@
-use Rattle.std.proofs.Common.{refl}
-use Rattle.std.specs.Fmt.{digits, padded_integral, char_count}
-use Rattle.mp_run.proofs.cases.change_arms_and_timer_expires.Goals as goal
-
-pub returns : goal.returns
-unfolding digits padded_integral char_count
-returns c = refl

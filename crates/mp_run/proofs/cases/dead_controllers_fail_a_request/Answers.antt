@@ -1,7 +1,0 @@
-use Rattle.std.proofs.Common.{refl}
-use Rattle.std.specs.Fmt.{digits, padded_integral, char_count}
-use Rattle.mp_run.proofs.cases.dead_controllers_fail_a_request.Goals as goal
-
-pub returns : goal.returns
-unfolding digits padded_integral char_count
-returns c = refl
