@@ -1,6 +1,6 @@
 -- What holds of the lanes of a text whose lines pass the checks.
 use Rattle.std.proofs.Common.{inl, inr, ◌≡◌, ℕ, suc, ◌+◌, ◌≤◌, Bool, true, false, List, [], ◌∷◌, ◌++◌, length, Option, Some, None, refl, sym, ap, ◌∙◌, append_assoc, zero-add, arith}
-use Rattle.std.specs.Prelude.{◌||◌, ◌&&◌, ◌==◌, not, nat_le, if◌then◌else◌, is_some, option_map, option_and_then, codes}
+use Rattle.std.specs.Prelude.{◌||◌, ◌&&◌, ◌==◌, not, nat_le, if◌then◌else◌, IfSome, is_some, option_map, option_and_then, codes}
 use Rattle.std.specs.Option.{option_to_list}
 use Rattle.std.specs.List.{flat_map, AllByRecursion}
 use Rattle.std.proofs.lemmas.Bool.{cases_Bool}
@@ -14,8 +14,8 @@ use Rattle.mp_words.specs.declared.row.CState.{CState}
 use Rattle.mp_topology.specs.declared.topology.Topology.{Topology}
 use Rattle.mp_topology.specs.declared.topology.Controller.{Controller}
 use Rattle.mp_script.specs.Splitting.{value_of}
-use Rattle.mp_script.specs.Shape.{Shape, skipped, unknown, answer, lane, keeper, submit, finish, log, ctrl, anatt, add, remove, policy, shape_of, is_word}
-use Rattle.mp_script.specs.Before.{Before, before, begins_lane, each_of, submitted_of, answer_of, submitted_in, repeats, lanes_in}
+use Rattle.mp_script.specs.Shape.{Shape, skipped, unknown, answer, lane, keeper, submit, finish, requeue, log, ctrl, anatt, add, remove, reap, policy, shape_of, is_word}
+use Rattle.mp_script.specs.Before.{Before, before, begins_lane, each_of, submitted_of, submitted_in, repeats, lanes_in}
 use Rattle.mp_script.specs.Lines.{line_checks, shape_checks, built_checks, is_built, is_within}
 use Rattle.mp_script.specs.Wording.{place_in}
 use Rattle.mp_script.specs.Plans.{finish_of, page_of, line_of, numbered, body, plans}
@@ -212,10 +212,6 @@ script_facts t pages lines pass =
 
 -- ---- what can be run so far
 
-built_none : (s : Shape) → is_built s ≡ true → answer_of s ≡ None
-built_none (answer r a st) e = absurd cc
-built_none _ e = refl
-
 false_passes : {E : Type 0} (e : E) (cs : List (Bool × E)) → first_fault ((false, e) ∷ cs) ≡ None → ⊥
 false_passes e cs h = cc
 
@@ -227,23 +223,44 @@ are_built n (l ∷ ls) pass = elim (cases_Bool (is_built (shape_of l))) [
   | inr e ↦ absurd (false_passes (errors.NotBuilt (n + 1)) (each_from built_checks (suc n) ls) (rw e at pass))
 ]
 
-no_answers : (ls : List (List ℕ)) → AllByRecursion (λ l. is_built (shape_of l) ≡ true) ls → each_of answer_of ls ≡ []
-no_answers [] all = refl
-no_answers (l ∷ ls) all = rw (built_none (shape_of l) all.0) (no_answers ls all.1)
-
 finish_simple : (w : List ℕ) → IsSimple (finish_of w)
 unfolding finish_of
 finish_simple w = elim (cases_Bool (is_word w (codes "all"))) [ inl e ↦ rw e tt | inr e ↦ rw e tt ]
 
-simple_one : (cs : List Controller) (n : ℕ) (s : Shape) → is_built s ≡ true → AreSimple (numbered cs n s)
+-- a line with a number, if there is one
+may_be : (n : ℕ) (o : Option Line) → IfSome o IsSimple → AreSimple (option_to_list (option_map (λ x. record { number = n; line = x }) o))
+may_be n None h = tt
+may_be n (Some x) h = (h, tt)
+
+-- a line that is none of the three, whatever its names are
+each_simple : {X : Type 0} (f : X → Line) (o : Option X) → ((x : X) → IsSimple (f x)) → IfSome (option_map f o) IsSimple
+each_simple f None h = tt
+each_simple f (Some x) h = h x
+
+goes_simple : (o : Option ℕ) (state : Option CState) → IfSome (option_and_then (λ c. option_map (line.Ctrl c) state) o) IsSimple
+goes_simple None state = tt
+goes_simple (Some c) state = each_simple (line.Ctrl c) state (λ x. tt)
+
+line_simple : (cs : List Controller) (s : Shape) → is_built s ≡ true → IfSome (line_of cs s) IsSimple
 unfolding line_of
-simple_one cs n skipped e = tt
-simple_one cs n unknown e = tt
-simple_one cs n lane e = tt
-simple_one cs n keeper e = tt
-simple_one cs n (submit r k) e = (tt, tt)
-simple_one cs n (finish r) e = (finish_simple r, tt)
-simple_one cs n _ e = absurd cc
+line_simple cs skipped e = tt
+line_simple cs unknown e = tt
+line_simple cs (answer r a st) e = tt
+line_simple cs lane e = tt
+line_simple cs keeper e = tt
+line_simple cs (submit r k) e = tt
+line_simple cs (finish r) e = finish_simple r
+line_simple cs requeue e = tt
+line_simple cs (log c k) e = each_simple (λ x. line.Log x (value_of k)) (place_in cs c) (λ x. tt)
+line_simple cs (ctrl c s) e = goes_simple (place_in cs c) (cstate_named s)
+line_simple cs (anatt c) e = each_simple line.Anatt (place_in cs c) (λ x. tt)
+line_simple cs (add c k) e = absurd cc
+line_simple cs (remove c) e = absurd cc
+line_simple cs reap e = absurd cc
+line_simple cs (policy p) e = each_simple line.Policy (policy_named p) (λ x. tt)
+
+simple_one : (cs : List Controller) (n : ℕ) (s : Shape) → is_built s ≡ true → AreSimple (numbered cs n s)
+simple_one cs n s e = may_be n (line_of cs s) (line_simple cs s e)
 
 simple_append : (xs ys : List Numbered1) → AreSimple xs → AreSimple ys → AreSimple (xs ++ ys)
 simple_append [] ys p q = q
@@ -261,5 +278,4 @@ simple_all cs n (l ∷ ls) all =
 pub built_facts : (cs : List Controller) (lines : List (List ℕ)) → first_fault (each_from built_checks 0 lines) ≡ None → IsBuilt (script_of cs lines)
 unfolding script_of
 built_facts cs lines pass =
-    let built = are_built 0 lines pass in
-    record { answers = rw (no_answers lines built) refl; simple = (simple_all cs 1 lines built).1 }
+    record { simple = (simple_all cs 1 lines (are_built 0 lines pass)).1 }

@@ -11,7 +11,7 @@ use Rattle.mp_words.specs.Answers.{in_order, IsAnswer, IsRising}
 use Rattle.mp_topology.specs.Facts.{IsTopology}
 use Rattle.mp_topology.specs.declared.topology.Topology.{Topology}
 use Rattle.mp_script.specs.Splitting.{is_script_byte, lines_of}
-use Rattle.mp_script.specs.Shape.{Shape, skipped, unknown, answer, lane, keeper, submit, finish, requeue, log, ctrl, anatt, add, remove, reap, policy, shape_of}
+use Rattle.mp_script.specs.Shape.{shape_of}
 use Rattle.mp_script.specs.Before.{each_of, answer_of, submitted_of, submitted_in}
 use Rattle.mp_script.specs.Lines.{byte_checks, line_checks, built_checks, is_built}
 use Rattle.mp_script.specs.Plans.{body, plans}
@@ -24,9 +24,9 @@ use Rattle.mp_script.proofs.WrittenWords.{are_plain, are_short, text_short, line
 use Rattle.mp_script.proofs.WrittenShapes.{Seen, canon, text_of}
 use Rattle.mp_script.proofs.WrittenLine.{is_kept}
 use Rattle.mp_script.proofs.WrittenPass.{PassFrom, IsLike, from_checks, to_checks, pass_both, few_lines, kept_lines, kept_yes, kept_no, kept_pass, each_of_append}
-use Rattle.mp_script.proofs.WrittenAnswers.{IsWritten, answer_shape, answer_line, answer_lines, plain_answer, answer_read, answers_lanes, answers_submits, answers_again, answers_pass}
+use Rattle.mp_script.proofs.WrittenAnswers.{IsWritten, answer_line, answer_lines, plain_answer, answer_read, answers_lanes, answers_submits, answers_again, answers_pass}
 use Rattle.mp_script.proofs.WrittenPlans.{kept_seen, AllRight, all_right, AreFirst, are_first, submitted_same, kept_submits, kept_plans, first_body, kept_words, joined_words, plain_kept, short_kept, length_kept, lane_written}
-use Rattle.mp_script.proofs.WrittenOrder.{length_in_order, all_in_order, rising_in_order, HasRequest, OnAnswer, one_more, requests_right, both_written, kept_answers, few_written, plans_answers, ranges_right, answers_rise}
+use Rattle.mp_script.proofs.WrittenOrder.{length_in_order, all_in_order, rising_in_order, HasRequest, requests_right, both_written, kept_answers, few_written, plans_answers, ranges_right, answers_rise}
 
 -- ---- what can be run
 
@@ -43,30 +43,6 @@ unfolding built_checks
 lines_built i [] h = tt
 lines_built i (l ∷ ls) h = (h.0, lines_built (suc i) ls h.1)
 
-abbrev pub IsBuiltAnswer : Answer → Type 0
-IsBuiltAnswer a = is_built (answer_shape a) ≡ true
-
-answer_built : (s : Shape) → is_built s ≡ true → OnAnswer IsBuiltAnswer (answer_of s)
-answer_built skipped h = tt
-answer_built unknown h = tt
-answer_built (answer r a s) h = h
-answer_built lane h = tt
-answer_built keeper h = tt
-answer_built (submit r n) h = tt
-answer_built (finish r) h = tt
-answer_built requeue h = tt
-answer_built (log c k) h = tt
-answer_built (ctrl c s) h = tt
-answer_built (anatt c) h = tt
-answer_built (add c k) h = tt
-answer_built (remove c) h = tt
-answer_built reap h = tt
-answer_built (policy p) h = tt
-
-answers_built : (ls : List (List ℕ)) → AreBuilt ls → AllByRecursion IsBuiltAnswer (each_of answer_of ls)
-answers_built [] h = tt
-answers_built (l ∷ ls) h = one_more IsBuiltAnswer (answer_of (shape_of l)) (each_of answer_of ls) (answer_built (shape_of l) h.0) (answers_built ls h.1)
-
 kept_built : (t : Topology) (pages : ℕ) (ls : List (List ℕ)) → AllRight t pages ls → AreBuilt ls → AreBuilt (kept_lines ls)
 kept_built t pages [] right h = tt
 kept_built t pages (l ∷ ls) right h = elim (cases_Bool (is_kept (shape_of l))) [
@@ -76,9 +52,10 @@ kept_built t pages (l ∷ ls) right h = elim (cases_Bool (is_kept (shape_of l)))
   | inr e ↦ rw (kept_no l ls e) (kept_built t pages ls right.1 h.1)
 ]
 
-written_built : (answers : List Answer) (ls : List (List ℕ)) → AllByRecursion IsWritten answers → AllByRecursion IsBuiltAnswer answers → AreBuilt ls → AreBuilt (answer_lines answers ++ ls)
-written_built [] ls written a h = h
-written_built (x ∷ answers) ls written a h = (ap is_built (answer_read x written.0) ∙ a.0, written_built answers ls written.1 a.1 h)
+-- a line that answers can be run
+written_built : (answers : List Answer) (ls : List (List ℕ)) → AllByRecursion IsWritten answers → AreBuilt ls → AreBuilt (answer_lines answers ++ ls)
+written_built [] ls written h = h
+written_built (x ∷ answers) ls written h = (ap is_built (answer_read x written.0), written_built answers ls written.1 h)
 
 -- ---- the bytes
 
@@ -197,7 +174,7 @@ canon_built : (t : Topology) (pages : ℕ) (ls : List (List ℕ)) → IsPassed t
 canon_built t pages ls h =
     let answers = in_order (each_of answer_of ls) in
     lines_built 0 (canon_lines ls)
-    (written_built answers (kept_lines ls) (written_of t pages ls h) (all_in_order IsBuiltAnswer (each_of answer_of ls) (answers_built ls h.built)) (kept_built t pages ls (right_of t pages ls h) h.built))
+    (written_built answers (kept_lines ls) (written_of t pages ls h) (kept_built t pages ls (right_of t pages ls h) h.built))
 
 text_checks : (t : Topology) (pages : ℕ) (ls : List (List ℕ)) → IsPassed t pages ls → AllPass (checks t pages (script_text t (script_of t.controllers ls)))
 unfolding checks

@@ -32,21 +32,20 @@ pub record IsScript (script : Script) : Type 0 where
 
 -- ---- what can be run so far
 
--- the line submits or finishes
+-- the line is none of `add`, `remove` and `reap`
 abbrev pub IsSimple : Line → Type 0
-IsSimple (line.Submit req node) = Unit {0}
-IsSimple (line.Finish req) = Unit {0}
-IsSimple line.FinishAll = Unit {0}
-IsSimple _ = ⊥
+IsSimple (line.Add c page) = ⊥
+IsSimple (line.Remove c) = ⊥
+IsSimple line.Reap = ⊥
+IsSimple _ = Unit {0}
 
--- each line submits or finishes
+-- each line is none of `add`, `remove` and `reap`
 abbrev pub AreSimple : List Numbered1 → Type 0
 AreSimple [] = Unit {0}
 AreSimple (l ∷ lines) = IsSimple l.line × AreSimple lines
 
 -- a script as the program can run it so far
 pub record IsBuilt (script : Script) : Type 0 where
-  pub answers : script.answers ≡ []
   pub simple : AllByRecursion (λ plan. AreSimple plan.lines) script.lanes
 
 -- ---- what lines name

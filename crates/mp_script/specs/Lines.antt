@@ -2,7 +2,7 @@
 use Rattle.std.specs.Prelude.{ℕ, ◌+◌, Bool, true, false, ◌&&◌, not, nat_le, ◌==◌, List, [], ◌∷◌, take}
 use Rattle.mp_topology.specs.declared.topology.Topology.{Topology}
 use Rattle.mp_script.specs.Splitting.{is_script_byte}
-use Rattle.mp_script.specs.Shape.{Shape, skipped, unknown, answer, lane, keeper, submit, finish, add, remove, reap, policy, shape_of}
+use Rattle.mp_script.specs.Shape.{Shape, skipped, unknown, answer, lane, keeper, add, remove, reap, policy, shape_of}
 use Rattle.mp_script.specs.Wording.{has_numbers, is_named, is_submitted}
 use Rattle.mp_script.specs.Before.{Before, begins_lane, before, repeats, submitted_in}
 use Rattle.mp_script.specs.declared.errors.ScriptError.{ScriptError}
@@ -49,15 +49,12 @@ line_checks t pages lines i l =
 unfoldable pub byte_checks : ℕ → ℕ → List (Bool × ScriptError)
 byte_checks i b = (is_script_byte b, errors.NotAscii i) ∷ []
 
--- the line is of a kind that can be run so far
+-- the line is of a kind that can be run so far: it is none of `add`, `remove` and `reap`
 abbrev pub is_built : Shape → Bool
-is_built skipped = true
-is_built unknown = true
-is_built lane = true
-is_built keeper = true
-is_built (submit r n) = true
-is_built (finish r) = true
-is_built _ = false
+is_built (add c k) = false
+is_built (remove c) = false
+is_built reap = false
+is_built _ = true
 
 -- the check of a line that comes last, behind those of the whole text: it is of a kind that can be run so far
 unfoldable pub built_checks : ℕ → List ℕ → List (Bool × ScriptError)

@@ -34,7 +34,7 @@ pub enum ScriptError {
     /// Memory ran out.
     #[error("out of memory")]
     NoMemory,
-    /// The line asks for what the program can't run yet.
+    /// The line is an `add`, a `remove` or a `reap`, which the program can't run yet.
     #[error("line {0} asks for what the program can't run yet")]
     NotBuilt(u32),
 }

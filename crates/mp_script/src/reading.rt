@@ -43,14 +43,9 @@ fn check_bytes(bytes: &[u8]) -> Result<(), ScriptError>
 fn is_built(line: LineShape<'_>) -> bool
     ensures { result ≡ is_built (shape line.entry) }
 {
-    matches!(
+    !matches!(
         line,
-        LineShape::Skipped
-            | LineShape::Unknown
-            | LineShape::Lane
-            | LineShape::Keeper
-            | LineShape::Submit(..)
-            | LineShape::Finish(_)
+        LineShape::Add(..) | LineShape::Remove(_) | LineShape::Reap
     )
 }
 
@@ -129,8 +124,8 @@ fn checked_script<'a>(
 ///   finishes.
 /// - `Repeat`: its request was submitted or its attempt answered by an earlier line, or it is a second keeper.
 ///
-/// Where no line has a fault, `NotBuilt` is answered with the number of the first line that the program can't run yet.
-/// `NoMemory` is answered where memory runs out.
+/// Where no line has a fault, `NotBuilt` is answered with the number of the first `add`, `remove` or `reap`, which the
+/// program can't run yet. `NoMemory` is answered where memory runs out.
 pub fn read_script(
     alloc: Global,
     bytes: &[u8],

@@ -52,8 +52,8 @@ fn refusal(alloc: Global, text: &[u8], topology: &Topology) -> (&'static str, u3
     }
 }
 
-/// A text, and how it is refused.
-const REFUSED: [(&[u8], (&str, u32)); 48] = [
+/// A text, and how it is refused, or that it is read.
+const REFUSED: [(&[u8], (&str, u32)); 50] = [
     (b"lane\n\xff", ("NotAscii", 5)),
     (b"jump\n\x7f", ("NotAscii", 5)),
     (b"submit 0 0", ("Line", 1)),
@@ -102,12 +102,15 @@ const REFUSED: [(&[u8], (&str, u32)); 48] = [
     (b"answer 0 1 0302\nanswer 0 01 0006", ("Repeat", 2)),
     (b"lane\nsubmit 7 0\nlane\nsubmit 007 0", ("Repeat", 4)),
     // What can't be run yet, once nothing else is at fault.
-    (b"answer 0 1 03fF", ("NotBuilt", 1)),
-    (b"lane\nrequeue\njump", ("Line", 3)),
-    (b"lane\nrequeue", ("NotBuilt", 2)),
-    (b"lane\nctrl a deleting-noio", ("NotBuilt", 2)),
+    (b"keeper\nreap\njump", ("Line", 3)),
+    (b"keeper\nreap", ("NotBuilt", 2)),
+    (b"keeper\nremove a\nadd a -", ("NotBuilt", 2)),
     (b"keeper\nadd a -", ("NotBuilt", 2)),
-    (b"keeper\npolicy queue-depth", ("NotBuilt", 2)),
+    // What can be run.
+    (b"answer 0 1 03fF", ("Ok", 0)),
+    (b"lane\nrequeue", ("Ok", 0)),
+    (b"lane\nctrl a deleting-noio\nanatt b", ("Ok", 0)),
+    (b"keeper\npolicy queue-depth", ("Ok", 0)),
     (b"lane\nfinish 0\nsubmit 0 0", ("Ok", 0)),
 ];
 

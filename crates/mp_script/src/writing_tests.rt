@@ -24,7 +24,7 @@ fn topology(rt: &impl Abort, alloc: Global) -> Topology
 }
 
 /// A text of a script, and its canonical text.
-const READ: [(&str, &str); 4] = [
+const READ: [(&str, &str); 6] = [
     ("", ""),
     (
         "lane\nsubmit 0 0\nsubmit 1 1\nfinish all\n",
@@ -35,6 +35,16 @@ const READ: [(&str, &str); 4] = [
         "keeper\nsubmit 65535 1\nlane\nfinish 65535\nfinish all\n",
     ),
     ("lane\nlane", "lane\nlane\n"),
+    (
+        "answer 0 1 0302\nlane\nsubmit 0 0\nfinish 0\nrequeue\nfinish 0\n",
+        "answer 0 1 0302\nlane\nsubmit 0 0\nfinish 0\nrequeue\nfinish 0\n",
+    ),
+    (
+        "answer 1 02 03fF\n answer 1 1 0006\nkeeper\npolicy  queue-depth\nctrl b resetting\n\
+         anatt a\n requeue \nsubmit 1 0",
+        "answer 1 1 0006\nanswer 1 2 03FF\nkeeper\npolicy queue-depth\nctrl b resetting\n\
+         anatt a\nrequeue\nsubmit 1 0\n",
+    ),
 ];
 
 #[test]

@@ -16,7 +16,7 @@ use Rattle.mp_topology.specs.Fields.{integer_at, text_at}
 use Rattle.mp_topology.specs.Distance.{distance_checks}
 use Rattle.mp_topology.specs.Controllers.{is_name, place_of, name_checks, name_of, node_checks, node_of, ana_checks, state_checks, page_checks, page_of, fields_of, controller_of, controllers_in, controller_checks, each_controller, controller_items, items_checks, controllers_checks, controllers_of, names_in, names_of}
 use Rattle.mp_topology.specs.Opening.{opening_items, named_place, places_in, opening_item_checks, each_opening, opening_checks, opening_of, has_page, paged_checks, opening_page_checks}
-use Rattle.mp_topology.specs.Topology.{nsid_checks, nsid_of, anagrpmax_checks, anagrpmax_of, group_checks, group_of, policy_checks, policy_of, nodes_checks, nodes_of, built_checks, checks, topology_of}
+use Rattle.mp_topology.specs.Topology.{nsid_checks, nsid_of, anagrpmax_checks, anagrpmax_of, group_checks, group_of, policy_checks, nodes_checks, nodes_of, checks, topology_of}
 use Rattle.mp_topology.specs.Facts.{IsTopology, IsPaged}
 use Rattle.mp_topology.specs.declared.topology.Controller.{Controller}
 use Rattle.mp_topology.proofs.Places.{unlike}
@@ -33,7 +33,6 @@ pub record Passes (t : Members) : Type 0 where
   pub controllers : AllPass (controllers_checks (nodes_of t) t)
   pub opening : AllPass (opening_checks (names_of t) t)
   pub pages : AllPass (opening_page_checks (controllers_of t) (opening_of (names_of t) t))
-  pub built : AllPass (built_checks (policy_of t))
 
 pub passes : (t : Members) → first_fault (checks t) ≡ None → Passes t
 passes t h =
@@ -45,8 +44,7 @@ passes t h =
     let f = pass_split (distance_checks (nodes_of t) t) _ e.1 in
     let g = pass_split (controllers_checks (nodes_of t) t) _ f.1 in
     let i = pass_split (opening_checks (names_of t) t) _ g.1 in
-    let j = pass_split (opening_page_checks (controllers_of t) (opening_of (names_of t) t)) _ i.1 in
-    record { nsid = a.0; anagrpmax = b.0; group = c.0; nodes = e.0; controllers = g.0; opening = i.0; pages = j.0; built = j.1 }
+    record { nsid = a.0; anagrpmax = b.0; group = c.0; nodes = e.0; controllers = g.0; opening = i.0; pages = i.1 }
 
 -- ---- the numbers
 

@@ -8,4 +8,3 @@ pub mod Gives
 pub mod Readable
 pub mod Passing
 pub mod Facts
-pub mod BuiltFacts

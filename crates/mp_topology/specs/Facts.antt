@@ -1,7 +1,6 @@
 -- What holds of each topology that is read.
 use Rattle.std.specs.Prelude.{◌≡◌, ◌≢◌, ◌<◌, ◌≤◌, true, length, IfSome, IsSome, All, HoldsAt}
 use Rattle.std.specs.List.{AllPairs}
-use Rattle.mp_words.specs.declared.row.Policy.TheVariants.{Numa}
 use Rattle.mp_topology.specs.Controllers.{is_name}
 use Rattle.mp_topology.specs.declared.topology.Controller.{Controller}
 use Rattle.mp_topology.specs.declared.topology.Topology.{Topology}
@@ -28,7 +27,3 @@ pub record IsTopology (t : Topology) : Type 0 where
   pub opening_once : AllPairs (λ p q. p ≢ q) t.opening
   pub opening_paged : All (λ p. HoldsAt IsPaged t.controllers p) t.opening
   pub pages : All (λ c. IfSome c.page (λ p. p < 1024)) t.controllers
-
--- The program can run such a topology so far: its policy is NUMA.
-pub record IsBuilt (t : Topology) : Type 0 where
-  pub policy : t.policy ≡ Numa

@@ -1,11 +1,11 @@
 -- The topology that a table is, and the checks of the table in their order.
-use Rattle.std.specs.Prelude.{◌≡◌, IsUtf8, ℕ, Bool, true, false, if◌then◌else◌, is_some, List, [], ◌∷◌, ◌++◌, codes, Option, Some, None, Result, Err, option_and_then, unwrap_or}
+use Rattle.std.specs.Prelude.{◌≡◌, IsUtf8, ℕ, Bool, if◌then◌else◌, is_some, List, [], ◌∷◌, ◌++◌, codes, Option, Some, None, Result, Err, option_and_then, unwrap_or}
 use Rattle.std.specs.Str.{is_utf8}
 use Rattle.toml.specs.Data.{Members}
 use Rattle.toml.specs.Parse.{parse_document}
 use Rattle.mp_checks.specs.Checks.{first_fault, if_there, value_unless}
 use Rattle.mp_words.specs.declared.row.Policy.{Policy}
-use Rattle.mp_words.specs.declared.row.Policy.TheVariants.{Numa, RoundRobin, QueueDepth}
+use Rattle.mp_words.specs.declared.row.Policy.TheVariants.{Numa}
 use Rattle.mp_words.specs.Names.{policy_named}
 use Rattle.mp_topology.specs.Fields.{at, integer_at, text_at, number_of, optional_of, number_checks, optional_checks}
 use Rattle.mp_topology.specs.Distance.{distance_checks, distances_of}
@@ -64,18 +64,6 @@ policy_checks t =
 unfoldable pub policy_of : Members → Policy
 policy_of t = unwrap_or (option_and_then policy_named (text_at (codes "policy") t)) Numa
 
--- ---- what can be run so far
-
--- the policy is NUMA
-abbrev pub is_numa : Policy → Bool
-is_numa Numa = true
-is_numa RoundRobin = false
-is_numa QueueDepth = false
-
--- the last check of a table: the program can run it so far
-unfoldable pub built_checks : Policy → List (Bool × TopologyError)
-built_checks policy = (is_numa policy, errors.NotBuilt) ∷ []
-
 -- ---- the whole
 
 -- every check of a table, in order
@@ -89,8 +77,7 @@ checks t =
     ++ (distance_checks (nodes_of t) t
     ++ (controllers_checks (nodes_of t) t
     ++ (opening_checks (names_of t) t
-    ++ (opening_page_checks (controllers_of t) (opening_of (names_of t) t)
-    ++ built_checks (policy_of t)))))))))
+    ++ opening_page_checks (controllers_of t) (opening_of (names_of t) t))))))))
 
 -- the topology that a table is, where no check fails
 abbrev pub topology_of : Members → Topology

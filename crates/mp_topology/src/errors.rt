@@ -53,9 +53,6 @@ pub enum TopologyError {
     /// Memory ran out.
     #[error("out of memory")]
     NoMemory,
-    /// The policy is one that the program can't run yet.
-    #[error("the program can't run such a policy yet")]
-    NotBuilt,
 }
 
 impl From<AllocError> for TopologyError {

@@ -1,7 +1,6 @@
 //! What a topology file says, and why a text is none.
 #![tactic(auto)]
 
-mod built;
 mod controllers;
 mod distance;
 pub mod errors;

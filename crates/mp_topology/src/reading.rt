@@ -6,9 +6,8 @@ ghost use Rattle.toml.specs.View.{table_view};
 ghost use Rattle.toml.specs.Data.{Members};
 ghost use Rattle.mp_topology.specs.Topology.{nsid_checks, nsid_of, anagrpmax_checks, anagrpmax_of, group_checks, group_of, nodes_checks, nodes_of, policy_checks, policy_of};
 ghost use Rattle.mp_topology.specs.Topology.{checks, topology_of, topology_in, IsTable};
-ghost use Rattle.mp_topology.specs.Facts.{IsTopology, IsBuilt};
+ghost use Rattle.mp_topology.specs.Facts.{IsTopology};
 
-use crate::built::check_built;
 use crate::controllers::controllers_in;
 use crate::distance::distance_in;
 use crate::errors::{Field, TopologyError};
@@ -87,7 +86,6 @@ fn topology_of(alloc: Global, table: &Table) -> Result<Topology, TopologyError>
     let controllers = controllers_in(alloc, nodes, table)?;
     let opening = opening_in(alloc, controllers.as_slice(), table)?;
     check_pages(controllers.as_slice(), opening.as_slice())?;
-    check_built(policy)?;
     let near = Near {
         nodes: nodes as u8,
         distance,
@@ -110,8 +108,7 @@ fn topology_of(alloc: Global, table: &Table) -> Result<Topology, TopologyError>
 ///
 /// `NotToml` where the bytes are no text of a table. Of a table, the first of its checks that fails: `Field` where a
 /// needed field is missing or one has another type, `Range` where its value is none of those allowed, `Duplicate` at a
-/// name's second place, `Limit` at an overlong list. `NotBuilt` where all pass and the policy isn't `numa`: the
-/// program can't run the others yet. `NoMemory` where memory runs out.
+/// name's second place, `Limit` at an overlong list. `NoMemory` where memory runs out.
 pub fn read_topology(alloc: Global, bytes: &[u8]) -> Result<Topology, TopologyError>
     // Of a table: the topology where no check fails, else the refusal of the first check that does.
     ensures table { (t : Members) → IsTable bytes.now t → Reads TopologyError.NoMemory result (checks t) (topology_of t) }
@@ -121,8 +118,6 @@ pub fn read_topology(alloc: Global, bytes: &[u8]) -> Result<Topology, TopologyEr
     ensures gives { Answers TopologyError.NoMemory result (topology_in bytes.now) }
     // What holds of each topology that is read.
     ensures read { IfOk result IsTopology }
-    // What holds as long as the last check stands.
-    ensures built { IfOk result IsBuilt }
 {
     match toml::table_from_slice(alloc, bytes) {
         Ok(table) => topology_of(alloc, &table),

@@ -33,7 +33,6 @@ fn parts(refusal: TopologyError) -> (&'static str, &'static str, u32) {
         TopologyError::Duplicate(place) => ("Duplicate", place.field.name(), place.index),
         TopologyError::Limit(place) => ("Limit", place.field.name(), place.index),
         TopologyError::NoMemory => ("NoMemory", "", 0),
-        TopologyError::NotBuilt => ("NotBuilt", "", 0),
     }
 }
 
@@ -52,7 +51,7 @@ const SIXTY_FIVE: &str = "controllers = [{},{},{},{},{},{},{},{},{},{},{},{},{},
     {},{},{},{},{},{},{},{},{},{},{},{},{},{},{},{},{},{},{},{},{},{},{},{},{},{}]\n";
 
 /// In place of what, what stands there, and how it is refused.
-const REFUSED: [(&str, &str, (&str, &str, u32)); 50] = [
+const REFUSED: [(&str, &str, (&str, &str, u32)); 48] = [
     ("nsid = 1\n", "", ("Field", "nsid", 0)),
     ("nsid = 1\n", "nsid = \"1\"\n", ("Field", "nsid", 0)),
     ("nsid = 1\n", "nsid = 1.0\n", ("Field", "nsid", 0)),
@@ -141,8 +140,6 @@ const REFUSED: [(&str, &str, (&str, &str, u32)); 50] = [
         ("Duplicate", "opening", 1),
     ),
     ("node = 1\n", "ana = true\n", ("Field", "page", 1)),
-    ("\"numa\"", "\"round-robin\"", ("NotBuilt", "", 0)),
-    ("\"numa\"", "\"queue-depth\"", ("NotBuilt", "", 0)),
 ];
 
 #[test]
@@ -191,9 +188,11 @@ fn reads_every_field(rt: HostRuntime) -> Result<(), Fail> {
 }
 
 /// What may stand there in place of what.
-const ACCEPTED: [(&str, &str); 6] = [
+const ACCEPTED: [(&str, &str); 8] = [
     ("nsid", "\u{feff}nsid"),
     ("nodes = 2", "group = 4\nnodes = 2"),
+    ("\"numa\"", "\"round-robin\""),
+    ("\"numa\"", "\"queue-depth\""),
     ("[\"a\", \"b\"]", "[]"),
     ("node = 1\n", "ana = false\n"),
     ("node = 1\n", "state = \"dead\"\n"),

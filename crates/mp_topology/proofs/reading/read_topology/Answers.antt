@@ -2,8 +2,7 @@ use Rattle.std.proofs.Common.{rules}
 use Rattle.toml.specs.View.{table_view}
 use Rattle.mp_topology.proofs.Gives.{table_gives, no_table_gives, if_read}
 use Rattle.mp_topology.proofs.Facts.{is_topology}
-use Rattle.mp_topology.proofs.BuiltFacts.{is_built_topology}
-use Rattle.mp_topology.specs.Facts.{IsTopology, IsBuilt}
+use Rattle.mp_topology.specs.Facts.{IsTopology}
 use Rattle.mp_topology.proofs.reading.read_topology.Goals as goal
 
 pub returns-in-Ok-clause-gives : goal.returns-in-Ok-clause-gives
@@ -14,6 +13,3 @@ returns-else-is_memory-clause-gives c = λ n. no_table_gives c.args.bytes.now (c
 
 pub returns-in-Ok-clause-read : goal.returns-in-Ok-clause-read
 returns-in-Ok-clause-read c = if_read IsTopology (table_view c.in-Ok.table) c.topology_of.result (is_topology (table_view c.in-Ok.table)) c.topology_of.ensures
-
-pub returns-in-Ok-clause-built : goal.returns-in-Ok-clause-built
-returns-in-Ok-clause-built c = if_read IsBuilt (table_view c.in-Ok.table) c.topology_of.result (is_built_topology (table_view c.in-Ok.table)) c.topology_of.ensures
