@@ -1,3 +1,4 @@
 pub mod Joined
 pub mod Trails
 pub mod Noted
+pub mod Apart

@@ -6,3 +6,4 @@ pub mod NoteText
 pub mod EventText
 pub mod RunText
 pub mod NotedText
+pub mod Kept

@@ -2,11 +2,13 @@
 
 ghost use Rattle.std.specs.Prelude.{◌≡◌, ◌≤◌, ◌++◌, OnOk, string_bytes, length, take};
 ghost use Rattle.mp_record.specs.EventText.{said_word, end_word, back_word, event_line};
+ghost use Rattle.mp_record.specs.declared.event.Event.TheVariants as an;
 
 use crate::event::{Event, Said};
 use crate::note_text::put_section;
 use crate::words::{grace_name, put_one, put_pair, put_statuses, put_three, put_two};
 use mp_words::names::{cstate_name, page_check_name};
+use mp_words::numbers::ReqId;
 use mp_words::trying::{Back, TryEnd};
 use std::alloc::AllocError;
 
@@ -88,37 +90,64 @@ pub(crate) fn first_statuses(statuses: &[u16; 6], count: u8) -> &[u16]
     }
 }
 
+/// The line of what a line of the script, or a round of the drain, says of itself.
+pub(crate) fn put_at(text: &mut String, line: u32, said: Said) -> Result<(), AllocError>
+    ensures { OnOk result (string_bytes text.new ≡ string_bytes text.old ++ event_line (an.At line said)) }
+{
+    put_one(text, "at", line)?;
+    text.push_str(" ")?;
+    put_said(text, said)?;
+    text.push_str("\n")
+}
+
+/// The line of a try.
+pub(crate) fn put_try(
+    text: &mut String,
+    req: ReqId,
+    hop: u32,
+    end: TryEnd,
+) -> Result<(), AllocError>
+    ensures { OnOk result (string_bytes text.new ≡ string_bytes text.old ++ event_line (an.Try req hop end)) }
+{
+    put_two(text, "try", req.get(), hop)?;
+    text.push_str(" ")?;
+    put_end(text, end)?;
+    text.push_str("\n")
+}
+
+/// The line of a try's end.
+pub(crate) fn put_fin(
+    text: &mut String,
+    req: ReqId,
+    hop: u32,
+    statuses: &[u16; 6],
+    count: u8,
+    back: Option<Back>,
+) -> Result<(), AllocError>
+    ensures { OnOk result (string_bytes text.new ≡ string_bytes text.old ++ event_line (an.Fin req hop statuses.now count back)) }
+{
+    put_two(text, "fin", req.get(), hop)?;
+    text.push_str(" ")?;
+    put_statuses(text, first_statuses(statuses, count))?;
+    text.push_str(" ")?;
+    put_back(text, back)?;
+    text.push_str("\n")
+}
+
 /// The line of an event.
 pub(crate) fn put_event(text: &mut String, event: &Event) -> Result<(), AllocError>
     ensures { OnOk result (string_bytes text.new ≡ string_bytes text.old ++ event_line event.now) }
 {
     match event {
         Event::Sec { note, moved } => put_section(text, note, *moved),
-        Event::At { line, said } => {
-            put_one(text, "at", *line)?;
-            text.push_str(" ")?;
-            put_said(text, *said)?;
-            text.push_str("\n")
-        }
-        Event::Try { req, hop, end } => {
-            put_two(text, "try", req.get(), *hop)?;
-            text.push_str(" ")?;
-            put_end(text, *end)?;
-            text.push_str("\n")
-        }
+        Event::At { line, said } => put_at(text, *line, *said),
+        Event::Try { req, hop, end } => put_try(text, *req, *hop, *end),
         Event::Fin {
             req,
             hop,
             statuses,
             count,
             back,
-        } => {
-            put_two(text, "fin", req.get(), *hop)?;
-            text.push_str(" ")?;
-            put_statuses(text, first_statuses(statuses, *count))?;
-            text.push_str(" ")?;
-            put_back(text, *back)?;
-            text.push_str("\n")
-        }
+        } => put_fin(text, *req, *hop, statuses, *count, *back),
     }
 }

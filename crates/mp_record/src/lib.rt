@@ -4,6 +4,8 @@
 pub mod event;
 mod event_text;
 mod history_text;
+mod kept;
+mod kept_text;
 mod lane_text;
 mod note_text;
 pub mod notes;

@@ -6,7 +6,7 @@ ghost use Rattle.mp_record.specs.Words.{list_word};
 ghost use Rattle.mp_record.specs.NoteText.{order_word, row_word, current_word, depth_word, loaded_depth, moved_word, read_words, section_line, closing_line};
 
 use crate::words::{
-    grace_name, put_comma, put_dash, put_maker, put_one, put_pair, put_three, put_two,
+    grace_name, put_comma, put_dash, put_maker, put_number, put_one, put_pair, put_three, put_two,
 };
 use mp_words::entry::Closing;
 use mp_words::note::Note;
@@ -21,10 +21,7 @@ fn put_order_version(text: &mut String, order: Option<Order>) -> Result<(), Allo
 {
     match order {
         None => text.push_str("-"),
-        Some(order) => {
-            let version = order.version;
-            write!(text, "{version}")
-        }
+        Some(order) => put_number(text, order.version),
     }
 }
 
@@ -57,10 +54,7 @@ fn put_current(text: &mut String, current: Option<Option<Slot>>) -> Result<(), A
     match current {
         None => text.push_str("-"),
         Some(None) => text.push_str("none"),
-        Some(Some(slot)) => {
-            let slot = slot.get();
-            write!(text, "{slot}")
-        }
+        Some(Some(slot)) => put_number(text, slot.get()),
     }
 }
 
@@ -132,8 +126,9 @@ pub(crate) fn put_closing(text: &mut String, closing: Closing) -> Result<(), All
     put_one(text, "closing", closing.slot.get())?;
     text.push_str(" ")?;
     put_three(text, grace, side, closing.entries, closing.order)?;
-    let mark = closing.mark;
-    write!(text, " {mark} ")?;
+    text.push_str(" ")?;
+    put_number(text, closing.mark)?;
+    text.push_str(" ")?;
     put_maker(text, closing.by)?;
     text.push_str("\n")
 }

@@ -1,17 +1,22 @@
 //! The events of one lane.
 
-ghost use Rattle.std.specs.Prelude.{◌≡◌, ◌≤◌, ◌<◌, ◌+◌, ◌++◌, ◌∷◌, [], Some, OnOk, OnErr, length, slice_get};
+ghost use Rattle.std.specs.Prelude.{ℕ, ◌≡◌, ◌≤◌, ◌<◌, ◌+◌, List, ◌++◌, ◌∷◌, [], Some, IfSome, OnOk, OnErr, length, string_bytes, slice_get};
+ghost use Rattle.mp_record.specs.Kept.{told, IsBelow};
+ghost use Rattle.mp_record.specs.NotedText.{noted_events};
+ghost use Rattle.mp_record.specs.declared.event.Event.{Event};
 
 use crate::event::{Event, Said};
+use crate::kept::Kept;
+use crate::kept_text::put_each;
 use mp_words::entry::RowEntry;
 use mp_words::note::Note;
-use mp_words::numbers::Slot;
+use mp_words::numbers::{ReqId, Slot};
 use mp_words::op::{Maker, Op};
 use mp_words::order::Order;
 use mp_words::reading::Reading;
 use mp_words::row::Row;
 use mp_words::trying::{Back, TryEnd};
-use std::alloc::Global;
+use std::alloc::{AllocError, Global};
 use std::marker::Model;
 use thiserror::Error;
 
@@ -22,19 +27,29 @@ pub enum NoteError {
     NoMemory,
 }
 
+/// For how many events room is made at least, so that most calls for room need none.
+const ROOM: usize = 16;
+
 /// The events of one lane, in order, and room for more of them.
+///
+/// Most are small, and kept in place. A section, and the end of a flight that came back with pending set, stand apart.
 #[derive(Drop)]
 pub struct LaneNotes {
-    events: Vec<Event>,
+    kept: Vec<Kept>,
+    apart: Vec<Event>,
+    room: usize,
 }
 
 impl Model for LaneNotes {
-    ghost use Rattle.std.specs.Prelude.{vec_len, vec_capacity, ◌-◌};
+    ghost use Rattle.std.specs.Prelude.{vec_len, vec_capacity, map, ◌+◌, ◌≤◌};
+    ghost use Rattle.mp_record.specs.Kept.{told, AreBelow};
     ghost use Rattle.mp_record.specs.NotesView.{NotesView};
 
     ghost Value = { NotesView };
 
-    ghost view = { λ n. record { events = n.events.items; spare = vec_capacity n.events - vec_len n.events } };
+    ghost view = { λ n. record { events = map (told n.apart.items) n.kept.items; spare = n.room } };
+
+    ghost invariant = { λ n. AreBelow (vec_len n.apart) n.kept.items × (vec_len n.kept + n.room ≤ vec_capacity n.kept) × (vec_len n.apart + n.room ≤ vec_capacity n.apart) };
 }
 
 impl LaneNotes {
@@ -43,7 +58,9 @@ impl LaneNotes {
         ensures { result.events ≡ [] }
     {
         LaneNotes {
-            events: Vec::new(alloc),
+            kept: Vec::new(alloc),
+            apart: Vec::new(alloc),
+            room: 0,
         }
     }
 
@@ -58,7 +75,14 @@ impl LaneNotes {
         ensures events { self.new.events ≡ self.old.events }
         ensures cause { OnErr result (self.old.spare < more) }
     {
-        self.events.reserve(more).map_err(|_| NoteError::NoMemory)
+        if more <= self.room {
+            return Ok(());
+        }
+        let room = if more < ROOM { ROOM } else { more };
+        self.kept.reserve(room).map_err(|_| NoteError::NoMemory)?;
+        self.apart.reserve(room).map_err(|_| NoteError::NoMemory)?;
+        self.room = room;
+        Ok(())
     }
 
     /// Adds an event at the end. It takes no memory.
@@ -68,6 +92,7 @@ impl LaneNotes {
         ensures spare { self.new.spare + 1 ≡ self.old.spare }
     {
         // The proof of a push needs each type inside an event named here.
+        let _: (Option<ReqId>, Option<Kept>, Option<[u16; 6]>) = (None, None, None);
         let _: Option<TryEnd> = None;
         let _: Option<Back> = None;
         let _: Option<Said> = None;
@@ -79,14 +104,22 @@ impl LaneNotes {
         let _: Option<Reading> = None;
         let _: Option<Note> = None;
         let _: Option<RowEntry> = None;
-        self.events.push_reserved(event);
+        self.room -= 1;
+        match kept_of(&event) {
+            Some(kept) => self.kept.push_reserved(kept),
+            None => {
+                let place = self.apart.len();
+                self.apart.push_reserved(event);
+                self.kept.push_reserved(Kept::Apart(place));
+            }
+        }
     }
 
     /// The number of events.
     pub fn len(&self) -> usize
         ensures { result ≡ length self.now.events }
     {
-        self.events.len()
+        self.kept.len()
     }
 
     /// The event at this place, counted from 0.
@@ -94,13 +127,84 @@ impl LaneNotes {
         requires { place < length self.now.events }
         ensures { slice_get self.now.events place ≡ Some result }
     {
-        self.events[place]
+        match self.kept[place] {
+            Kept::Apart(place) => self.apart[place],
+            Kept::At { line, said } => Event::At { line, said },
+            Kept::Try { req, hop, end } => Event::Try { req, hop, end },
+            Kept::Done {
+                req,
+                hop,
+                statuses,
+                count,
+            } => Event::Fin {
+                req,
+                hop,
+                statuses,
+                count,
+                back: None,
+            },
+            Kept::Unset {
+                req,
+                hop,
+                statuses,
+                count,
+            } => Event::Fin {
+                req,
+                hop,
+                statuses,
+                count,
+                back: Some(Back::Unset),
+            },
+        }
     }
 
-    /// The events, in order.
-    pub fn as_slice(&self) -> &[Event]
-        ensures { result.now ≡ self.now.events }
+    /// Puts the lines of the events behind a text; a section has one only with the notes.
+    pub(crate) fn put(&self, text: &mut String, notes: bool) -> Result<(), AllocError>
+        ensures { OnOk result (string_bytes text.new ≡ string_bytes text.old ++ noted_events notes self.now.events) }
     {
-        self.events.as_slice()
+        put_each(text, notes, self.kept.as_slice(), self.apart.as_slice())
+    }
+}
+
+/// The event as it is kept in place, where it is small.
+fn kept_of(event: &Event) -> Option<Kept>
+    ensures told { IfSome result (λ k. (apart : List Event) → told apart k ≡ event.now) }
+    ensures below { IfSome result (λ k. (n : ℕ) → IsBelow n k) }
+{
+    match event {
+        Event::At { line, said } => Some(Kept::At {
+            line: *line,
+            said: *said,
+        }),
+        Event::Try { req, hop, end } => Some(Kept::Try {
+            req: *req,
+            hop: *hop,
+            end: *end,
+        }),
+        Event::Fin {
+            req,
+            hop,
+            statuses,
+            count,
+            back: None,
+        } => Some(Kept::Done {
+            req: *req,
+            hop: *hop,
+            statuses: *statuses,
+            count: *count,
+        }),
+        Event::Fin {
+            req,
+            hop,
+            statuses,
+            count,
+            back: Some(Back::Unset),
+        } => Some(Kept::Unset {
+            req: *req,
+            hop: *hop,
+            statuses: *statuses,
+            count: *count,
+        }),
+        _ => None,
     }
 }

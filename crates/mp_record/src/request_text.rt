@@ -9,6 +9,7 @@ ghost use Rattle.mp_record.specs.NotedText.{tries_line, asked_line};
 
 use crate::event_text::first_statuses;
 use crate::words::{put_comma, put_dash, put_two};
+use itoa::Buffer;
 use mp_topology::names::controller_name;
 use mp_topology::topology::Topology;
 use mp_words::entry::RowEntry;
@@ -117,7 +118,9 @@ fn put_end(text: &mut String, tries: &[Try]) -> Result<(), AllocError>
 {
     put_outcome(text, outcome(tries))?;
     let attempts = attempts(tries);
-    write!(text, " {attempts}")
+    let mut buffer = Buffer::new();
+    text.push_str(" ")?;
+    text.push_str(buffer.format(attempts))
 }
 
 /// The line of a request of this number with these tries, that was submitted on this node.

@@ -6,7 +6,7 @@ ghost use Rattle.mp_record.specs.RunText.{run_text};
 ghost use Rattle.mp_record.specs.NotedText.{noted_text};
 
 use crate::history_text::{put_head, put_keeping, put_rows};
-use crate::lane_text::{put_events, put_lanes};
+use crate::lane_text::put_lanes;
 use crate::request_text::put_requests;
 use crate::run::Run;
 use mp_topology::topology::Topology;
@@ -31,7 +31,7 @@ fn text_of(alloc: Global, run: &Run, topology: &Topology, notes: bool) -> Result
     put_keeping(&mut text, notes, run.keeping.as_slice())?;
     put_lanes(&mut text, notes, &run.keeper, run.lanes.as_slice())?;
     text.push_str("drain\n")?;
-    put_events(&mut text, notes, run.drain.as_slice())?;
+    run.drain.put(&mut text, notes)?;
     put_requests(&mut text, topology, rows, run.requests.as_slice())?;
     text.push_str("end\n")?;
     Ok(text)

@@ -5,6 +5,7 @@ ghost use Rattle.std.specs.Fmt.{decimal};
 ghost use Rattle.mp_record.specs.Words.{one_number, two_numbers, three_numbers, pair_word, comma, dash, letter, grace_word, flags_word, maker_word, path_word, list_word};
 ghost use Rattle.mp_words.specs.Status.{status_word};
 
+use itoa::Buffer;
 use mp_topology::names::controller_name;
 use mp_topology::topology::Topology;
 use mp_words::entry::Grace;
@@ -15,18 +16,33 @@ use mp_words::row::{CState, Policy, Row};
 use mp_words::status::put_status;
 use std::alloc::AllocError;
 
+/// A number in decimal. One digit, as most have, wants no buffer.
+pub(crate) fn put_number(text: &mut String, n: u32) -> Result<(), AllocError>
+    ensures { OnOk result (string_bytes text.new ≡ string_bytes text.old ++ decimal n) }
+{
+    if n < 10 {
+        return text.push(char::from(b'0' + n as u8));
+    }
+    let mut buffer = Buffer::new();
+    text.push_str(buffer.format(n))
+}
+
 /// A word and a number.
 pub(crate) fn put_one(text: &mut String, word: &str, a: u32) -> Result<(), AllocError>
     ensures { OnOk result (string_bytes text.new ≡ string_bytes text.old ++ one_number word.now a) }
 {
-    write!(text, "{word} {a}")
+    text.push_str(word)?;
+    text.push_str(" ")?;
+    put_number(text, a)
 }
 
 /// A word and two numbers.
 pub(crate) fn put_two(text: &mut String, word: &str, a: u32, b: u32) -> Result<(), AllocError>
     ensures { OnOk result (string_bytes text.new ≡ string_bytes text.old ++ two_numbers word.now a b) }
 {
-    write!(text, "{word} {a} {b}")
+    put_one(text, word, a)?;
+    text.push_str(" ")?;
+    put_number(text, b)
 }
 
 /// A word and three numbers.
@@ -39,14 +55,18 @@ pub(crate) fn put_three(
 ) -> Result<(), AllocError>
     ensures { OnOk result (string_bytes text.new ≡ string_bytes text.old ++ three_numbers word.now a b c) }
 {
-    write!(text, "{word} {a} {b} {c}")
+    put_two(text, word, a, b)?;
+    text.push_str(" ")?;
+    put_number(text, c)
 }
 
 /// Two numbers with a colon between them.
 pub(crate) fn put_pair(text: &mut String, a: u32, b: u32) -> Result<(), AllocError>
     ensures { OnOk result (string_bytes text.new ≡ string_bytes text.old ++ pair_word a b) }
 {
-    write!(text, "{a}:{b}")
+    put_number(text, a)?;
+    text.push_str(":")?;
+    put_number(text, b)
 }
 
 /// The comma before a further item of a list.
@@ -111,13 +131,16 @@ pub(crate) fn put_maker(text: &mut String, maker: Maker) -> Result<(), AllocErro
     match maker {
         Maker::Start => text.push_str("open"),
         Maker::Line { lane, line } => {
-            let lane = lane.get();
-            write!(text, "{lane}.{line}")
+            put_number(text, lane.get())?;
+            text.push_str(".")?;
+            put_number(text, line)
         }
         Maker::Hop { lane, req, hop } => {
-            let lane = lane.get();
-            let req = req.get();
-            write!(text, "{lane}/{req}.{hop}")
+            put_number(text, lane.get())?;
+            text.push_str("/")?;
+            put_number(text, req.get())?;
+            text.push_str(".")?;
+            put_number(text, hop)
         }
     }
 }
@@ -131,7 +154,10 @@ pub(crate) fn put_path(text: &mut String, topology: &Topology, row: Row) -> Resu
     }
     let name = controller_name(topology, row.ctrl);
     let cstate = cstate_name(row.cstate);
-    write!(text, "{name} {cstate} ")?;
+    text.push_str(name)?;
+    text.push_str(" ")?;
+    text.push_str(cstate)?;
+    text.push_str(" ")?;
     put_state(text, row.state)?;
     text.push_str(" ")?;
     put_flags(text, row)
@@ -144,11 +170,10 @@ pub(crate) fn put_slots(text: &mut String, slots: &[Slot]) -> Result<(), AllocEr
     let Some((first, rest)) = slots.split_first() else {
         return text.push_str("-");
     };
-    let first = first.get();
-    write!(text, "{first}")?;
+    put_number(text, first.get())?;
     for slot in rest {
-        let slot = slot.get();
-        write!(text, ",{slot}")?;
+        text.push_str(",")?;
+        put_number(text, slot.get())?;
     }
     Ok(())
 }

@@ -79,6 +79,13 @@ impl Request {
         if self.tries.len() == MOST_TRIES {
             return Err(SubmitError::NoMemory);
         }
+        // Most requests are tried once, so the first try gets just its room.
+        if self.tries.is_empty() {
+            return self
+                .tries
+                .reserve_exact(1)
+                .map_err(|_| SubmitError::NoMemory);
+        }
         self.tries.reserve(1).map_err(|_| SubmitError::NoMemory)
     }
 

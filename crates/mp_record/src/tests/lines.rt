@@ -1,10 +1,9 @@
 //! Each kind of line, with what the format says of it.
 
-use super::{one, opened, opening_order, request, rows, slot, topology};
+use super::{notes, one, opened, opening_order, request, rows, slot, topology};
 use crate::event::{Event, Said};
 use crate::event_text::put_event;
 use crate::history_text::{put_keeping, put_rows};
-use crate::lane_text::put_events;
 use crate::request_text::put_request;
 use mp_words::entry::{Closing, Grace, KeepEntry, OrderEntry, RowEntry};
 use mp_words::note::Note;
@@ -157,7 +156,7 @@ fn writes_sections_with_the_notes(rt: HostRuntime) -> Result<(), Fail> {
     for (with_notes, wanted) in [(true, NOTED), (false, PLAIN)] {
         let mut text = String::new(alloc);
         for number in 0..8 {
-            put_events(&mut text, with_notes, &[event(number)])?;
+            notes(alloc, &[event(number)])?.put(&mut text, with_notes)?;
         }
         assert_eq!(rt; text.as_str(), wanted);
     }

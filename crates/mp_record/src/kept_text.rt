@@ -1,0 +1,70 @@
+//! The text of kept events.
+
+ghost use Rattle.std.specs.Prelude.{◌≡◌, ◌++◌, OnOk, string_bytes, length};
+ghost use Rattle.std.specs.List.{flat_map};
+ghost use Rattle.mp_record.specs.RunView.{is_plain};
+ghost use Rattle.mp_record.specs.NotedText.{noted_event};
+ghost use Rattle.mp_record.specs.Kept.{told, IsBelow, AreBelow};
+
+use crate::event::Event;
+use crate::event_text::{put_at, put_event, put_fin, put_try};
+use crate::kept::Kept;
+use mp_words::trying::Back;
+use std::alloc::AllocError;
+
+/// Whether an event is no section.
+fn is_plain_event(event: &Event) -> bool
+    ensures { result ≡ is_plain event.now }
+{
+    !matches!(event, Event::Sec { .. })
+}
+
+/// The line of an event; a section has one only with the notes.
+fn put_noted(text: &mut String, notes: bool, event: &Event) -> Result<(), AllocError>
+    ensures { OnOk result (string_bytes text.new ≡ string_bytes text.old ++ noted_event notes event.now) }
+{
+    if notes || is_plain_event(event) {
+        return put_event(text, event);
+    }
+    Ok(())
+}
+
+/// The line of a kept event. One that is small is no section, so it has a line without the notes too.
+fn put_kept(text: &mut String, notes: bool, kept: &Kept, apart: &[Event]) -> Result<(), AllocError>
+    requires { IsBelow (length apart.now) kept.now }
+    ensures { OnOk result (string_bytes text.new ≡ string_bytes text.old ++ noted_event notes (told apart.now kept.now)) }
+{
+    match kept {
+        Kept::Apart(place) => put_noted(text, notes, &apart[*place]),
+        Kept::At { line, said } => put_at(text, *line, *said),
+        Kept::Try { req, hop, end } => put_try(text, *req, *hop, *end),
+        Kept::Done {
+            req,
+            hop,
+            statuses,
+            count,
+        } => put_fin(text, *req, *hop, statuses, *count, None),
+        Kept::Unset {
+            req,
+            hop,
+            statuses,
+            count,
+        } => put_fin(text, *req, *hop, statuses, *count, Some(Back::Unset)),
+    }
+}
+
+/// The lines of kept events.
+pub(crate) fn put_each(
+    text: &mut String,
+    notes: bool,
+    kept: &[Kept],
+    apart: &[Event],
+) -> Result<(), AllocError>
+    requires { AreBelow (length apart.now) kept.now }
+    ensures { OnOk result (string_bytes text.new ≡ string_bytes text.old ++ flat_map (λ k. noted_event notes (told apart.now k)) kept.now) }
+{
+    for one in kept {
+        put_kept(text, notes, one, apart)?;
+    }
+    Ok(())
+}
