@@ -1,5 +1,5 @@
 -- One line of a lane, and a lane's end.
-use Rattle.std.specs.Prelude.{slice_index_or, ℕ, ◌==◌, List, [], ◌∷◌, ◌++◌, map, filter, length, Option, Some, None, Result, Ok, Err}
+use Rattle.std.specs.Prelude.{slice_index_or, ℕ, ◌==◌, List, [], ◌∷◌, map, filter, length, Option, Some, None, Result, Ok, Err}
 use Rattle.mp_words.specs.declared.op.Op.TheVariants as op
 use Rattle.mp_words.specs.declared.flight.Flight.{Flight}
 use Rattle.mp_words.specs.Request.{Asked}
@@ -13,7 +13,7 @@ use Rattle.mp_script.specs.declared.script.Line.{Line}
 use Rattle.mp_script.specs.declared.script.Line.TheVariants as line
 use Rattle.mp_script.specs.declared.script.Numbered1.{Numbered1}
 use Rattle.mp_page.specs.Gifts.{page_at, gift_of, state_for, changing}
-use Rattle.mp_legal.specs.PlainState.{State}
+use Rattle.mp_legal.specs.PlainState.{State, with_new}
 use Rattle.mp_legal.specs.PlainCall.{Inputs, Call, submit, finish, change, add, remove, set_policy, reap, call}
 use Rattle.mp_legal.specs.Stepped.{Stepped, Place, tells, and_then, each}
 
@@ -67,7 +67,7 @@ adds i s ctrl (Some box) = by_page s (page_at i.pages box) (λ page. add (gift_o
 abbrev pub start_of : Inputs → ℕ → State → Line → Start
 start_of i lane s (line.Submit req node) =
     let new : Asked = record { req = req; node = node; tries = [] } in
-    record { state = record s { requests = s.requests ++ new ∷ [] }; said = said.Submit ∷ []; calls = submit req ∷ [] }
+    record { state = record s { requests = with_new new s.requests }; said = said.Submit ∷ []; calls = submit req ∷ [] }
 start_of i lane s (line.Finish req) = finishes s (flights_with req (flights_of lane s))
 start_of i lane s line.FinishAll = finishes s (flights_of lane s)
 start_of i lane s line.Requeue =

@@ -1,8 +1,6 @@
 -- The run of a script on one thread: the opening, the lanes by turns, and the drain.
 use Rattle.std.specs.Prelude.{ℕ, ◌==◌, List, [], ◌∷◌, ◌++◌, map, filter, length, position, fold}
 use Rattle.std.specs.List.{enumerate_from, range_with_len, flat_map}
-use Rattle.std.specs.BTreeMap.{insert_entry}
-use Rattle.std.specs.Ordering.{nat_cmp}
 use Rattle.mp_words.specs.declared.entry.RowEntry.{RowEntry}
 use Rattle.mp_words.specs.declared.entry.KeepEntry.TheVariants as keep
 use Rattle.mp_record.specs.declared.event.Event.{Event}
@@ -10,7 +8,6 @@ use Rattle.mp_script.specs.declared.script.LanePlan.{LanePlan}
 use Rattle.mp_script.specs.declared.script.Script.{Script}
 use Rattle.mp_script.specs.declared.script.World.{World}
 use Rattle.mp_page.specs.Page.{page_in}
-use Rattle.mp_words.specs.Request.{Asked}
 use Rattle.mp_record.specs.RunView.{RunView}
 use Rattle.mp_legal.specs.PlainState.{State}
 use Rattle.mp_legal.specs.TryRead.{TryRead}
@@ -45,14 +42,6 @@ events_in ts lane = flat_map (λ t. t.step.events) (filter (λ t. t.lane == lane
 abbrev pub rows_in : List RowEntry → RowEntry → List RowEntry
 rows_in made first = first ∷ filter (λ e. e.slot == first.slot) made
 
--- the requests with their numbers, each put at its place
-abbrev pub entries_of : List Asked → List (ℕ × Asked)
-entries_of requests = fold (λ entries a. insert_entry nat_cmp entries a.req a) [] requests
-
--- the requests by number
-abbrev pub by_number : List Asked → List Asked
-by_number requests = map (λ entry. entry.1) (entries_of requests)
-
 -- the run of these turns and of the drain behind them
 abbrev pub run_of : Inputs → List LanePlan → List Taken → Stepped → RunView
 run_of i lanes ts last = record {
@@ -62,7 +51,7 @@ run_of i lanes ts last = record {
   keeping = map keep.Order (first_order i ∷ flat_map (λ t. t.step.orders) ts ++ last.orders);
   lanes = map (events_in ts) (range_with_len 0 (length lanes));
   drain = last.events;
-  requests = by_number last.state.requests;
+  requests = last.state.requests;
 }
 
 -- the run of a script's lanes

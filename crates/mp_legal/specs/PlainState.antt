@@ -1,5 +1,5 @@
 -- The state of a run on one thread.
-use Rattle.std.specs.Prelude.{ℕ, ◌==◌, List, [], map, sum_by, count_by, find, Option, Some, None, slice_index_or, slice_set, if◌then◌else◌}
+use Rattle.std.specs.Prelude.{ℕ, ◌==◌, nat_lt, List, [], ◌∷◌, map, sum_by, count_by, Option, Some, slice_index_or, slice_set, if◌then◌else◌}
 use Rattle.mp_words.specs.declared.row.Row.{Row}
 use Rattle.mp_words.specs.declared.order.Order.{Order}
 use Rattle.mp_words.specs.declared.op.Op.{Op}
@@ -11,10 +11,11 @@ use Rattle.mp_words.specs.Request.{Tried, Asked}
 use Rattle.mp_words.specs.Effect.{free_row, row_after, clears_of, cleared}
 use Rattle.mp_words.specs.declared.path.Path.{Path}
 use Rattle.mp_legal.specs.TryRead.{TryRead}
+use Rattle.mp_legal.specs.Numbers.{asked_at}
 
 -- The rows by slot, the list, the last choices by node, the flights of each lane (the drain is lane 16) in the order
--- sent, the waiting requests, the slots under removal, the number of flips, the requests in the order submitted, and
--- what each try read, with its request's number, in the order of the tries.
+-- sent, the waiting requests, the slots under removal, the number of flips, the requests by number, and what each try
+-- read, with its request's number, in the order of the tries.
 pub record State : Type 0 where
   pub rows : List Row
   pub order : Order
@@ -44,11 +45,12 @@ depth_of s slot = sum_by (λ flights. count_by (λ flight. flight.slot == slot) 
 
 -- the request of a number, or one without tries
 abbrev pub request_of : State → ℕ → Asked
-request_of s req = asked_or (find (λ a. a.req == req) s.requests)
-  where
-    asked_or : Option Asked → Asked
-    asked_or None = record { req = req; node = 0; tries = [] }
-    asked_or (Some a) = a
+request_of s req = asked_at req s.requests
+
+-- the requests by number, with one more
+abbrev pub with_new : Asked → List Asked → List Asked
+with_new a [] = a ∷ []
+with_new a (b ∷ requests) = if nat_lt a.req b.req then a ∷ b ∷ requests else b ∷ with_new a requests
 
 -- the requests, with these tries of one of them
 abbrev pub with_tries : ℕ → List Tried → List Asked → List Asked

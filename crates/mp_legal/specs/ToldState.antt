@@ -10,7 +10,7 @@ use Rattle.mp_legal.specs.PlainState.{State, depth_of}
 use Rattle.mp_legal.specs.TryRead.{TryRead}
 
 -- What a run has beside the words: the flights of each lane in the order sent, the waiting requests, the slots under
--- removal, the number of flips, the requests in the order submitted, and what each try read.
+-- removal, the number of flips, the requests by number, and what each try read.
 pub record Beside : Type 0 where
   pub flights : List (List Flight)
   pub waiting : List ℕ

@@ -14,6 +14,9 @@ use Rattle.mp_legal.specs.Opening.{opening}
 use Rattle.mp_legal.specs.Turns.{Turn, turns_of}
 use Rattle.mp_legal.specs.Drain.{drain_place, is_sent, most_rounds}
 use Rattle.mp_record.specs.RunView.{RunView}
+use Rattle.mp_script.specs.declared.script.Script.{Script}
+use Rattle.mp_script.specs.declared.script.World.{World}
+use Rattle.mp_legal.specs.Inputs.{inputs_for}
 use Rattle.mp_legal.specs.PlainRun.{Taken, state_after, run_of}
 
 -- how many units a call needs
@@ -65,12 +68,15 @@ abbrev pub each_paid : {X : Type 0} → (State → ℕ → X → Paid) → State
 each_paid pay s left [] = record { step = tells s []; left = Some left }
 each_paid pay s left (x ∷ xs) = paid_then (pay s left x) (λ t rest. each_paid pay t rest xs)
 
+-- a step that needs and uses so many units, if it can be paid
+abbrev pub paid_if : ℕ → ℕ → Stepped → State → ℕ → Paid
+paid_if needed used step s left =
+    let paid : Paid = record { step = step; left = Some (left - used) } in
+    if nat_lt left needed then record { step = tells s []; left = None } else paid
+
 -- one call, if it can be paid
 abbrev pub pay_call : Inputs → Place → State → ℕ → Call → Paid
-pay_call i at s left c =
-    let step = call i at s c in
-    let paid : Paid = record { step = step; left = Some (left - uses c step) } in
-    if nat_lt left (needs c) then record { step = tells s []; left = None } else paid
+pay_call i at s left c = paid_if (needs c) (uses c (call i at s c)) (call i at s c) s left
 
 -- the flights of a spent lane are ended
 abbrev pub settled : ℕ → Paid → Paid
@@ -148,3 +154,8 @@ abbrev pub serial_run : ℕ → Inputs → List LanePlan → Result RunView ℕ
 serial_run allowance i lanes =
     let ts = pay_turns i (opening i) (replicate (length lanes) (Some allowance)) (turns_of lanes) in
     run_paid allowance i lanes ts.taken (position is_none ts.lefts)
+
+-- the run of a script over a world with an allowance of units for each lane and for the drain, or the least lane that is
+-- spent
+unfoldable pub serial_over : ℕ → World → Script → Result RunView ℕ
+serial_over allowance world script = serial_run allowance (inputs_for world script) script.lanes
