@@ -30,7 +30,6 @@ fn topology_line(alloc: Global, error: TopologyError) -> Result<String, AllocErr
         TopologyError::Duplicate(place) => place_line(alloc, "Duplicate", place),
         TopologyError::Limit(place) => place_line(alloc, "Limit", place),
         TopologyError::NoMemory => String::from_str(alloc, "out of memory"),
-        TopologyError::NotBuilt => String::from_str(alloc, "topology refused NotBuilt"),
     }
 }
 
@@ -76,6 +75,10 @@ fn fault_line(alloc: Global, status: Status) -> Result<String, AllocError> {
         Status::Script(error) => script_line(alloc, error),
         Status::Boxes(error) => boxes_line(alloc, error),
         Status::TooLong(file) => format!(in alloc; "file {file} is too long"),
+        Status::Spent(lane) => {
+            let lane = lane.get();
+            format!(in alloc; "lane {lane} is spent")
+        }
     }
 }
 

@@ -1,8 +1,10 @@
 -- Words and files that are accepted have a text.
-use Rattle.std.proofs.Common.{◌≡◌, ℕ, nat_le, true, List, length, Option, Some, None, Result, Ok, refl}
+use Rattle.std.proofs.Common.{◌≡◌, ℕ, nat_le, true, false, List, length, Option, Some, None, Result, Ok, refl}
 use Rattle.std.proofs.lemmas.Bool.{le-leb}
 use Rattle.mp_io.specs.Files.{Files}
 use Rattle.mp_page.specs.Text.{pages_text}
+use Rattle.mp_record.specs.RunView.{noted}
+use Rattle.mp_record.specs.RunText.{run_text}
 use Rattle.mp_run.specs.declared.status.Status.{Status}
 use Rattle.mp_run.specs.declared.status.Status.TheVariants as end
 use Rattle.mp_run.specs.Accepted.{Holds, AcceptsRun, AcceptsPages, Accepts, IsDone}
@@ -17,12 +19,12 @@ found_within : (i : ℕ) (files : Files) (name : List ℕ) (h : Holds files name
 found_within i files name h = let b : nat_le (length h.bytes) 16777216 ≡ true = le-leb _ _ h.within in rw (h.there, b) refl
 
 serial_has : (files : Files) (names : Names) → AcceptsRun files names → HasText (serial_in files names)
-unfolding serial_in serial_for
+unfolding serial_in serial_for serial_text
 serial_has files names a =
     let t : read_of files 1 names.topology ≡ Ok a.topology_file.bytes = found_within 1 files names.topology a.topology_file in
     let p : read_of files 2 names.boxes ≡ Ok a.boxes_file.bytes = found_within 2 files names.boxes a.boxes_file in
     let s : read_of files 3 names.script ≡ Ok a.script_file.bytes = found_within 3 files names.script a.script_file in
-    (serial_text (record { topology = a.topology; pages = a.boxes }) a.script, rw (t, p, s, a.topology_read, a.boxes_read, a.fit, a.script_read) refl)
+    (run_text a.topology (noted false a.run), rw (t, p, s, a.topology_read, a.boxes_read, a.fit, a.script_read, a.paid) refl)
 
 pages_has : (files : Files) (name : List ℕ) (max : ℕ) → AcceptsPages files name → HasText (pages_in files name max)
 unfolding pages_in pages_for
@@ -48,6 +50,7 @@ done read text old new (end.Topology e) is told reads writes = absurd cc
 done read text old new (end.Script e) is told reads writes = absurd cc
 done read text old new (end.Boxes e) is told reads writes = absurd cc
 done read text old new (end.TooLong i) is told reads writes = absurd cc
+done read text old new (end.Spent lane) is told reads writes = absurd cc
 
 pub told_done : (files : Files) (form : Option Form) (old new : Option (List ℕ)) (status : Status) → Accepts files form → Answers (for_form files form) old new status
     → ((i : ℕ) → status ≡ end.ReadFault i → ⊥) → (status ≡ end.WriteFault → ⊥) → IsDone status

@@ -20,6 +20,7 @@ reads_refused names file end.WriteFault old new refused low high read = absurd r
 reads_refused names file (end.Topology e) old new refused low high read = absurd refused
 reads_refused names file (end.Script e) old new refused low high read = absurd refused
 reads_refused names file (end.Boxes e) old new refused low high read = absurd refused
+reads_refused names file (end.Spent lane) old new refused low high read = absurd refused
 
 -- memory ran out once all files were read
 pub reads_ran_out : (names old new : List (List ℕ)) → new ≡ old ++ names → Reads names end.NoMemory old new
@@ -30,6 +31,7 @@ reads_status names end.NoMemory old new refused read = reads_ran_out names old n
 reads_status names (end.Topology e) old new refused read = read
 reads_status names (end.Script e) old new refused read = read
 reads_status names (end.Boxes e) old new refused read = read
+reads_status names (end.Spent lane) old new refused read = read
 reads_status names (end.ReadFault i) old new refused read = absurd refused
 reads_status names (end.TooLong i) old new refused read = absurd refused
 reads_status names end.Ok old new refused read = absurd refused

@@ -1,4 +1,4 @@
--- Requests by number in the order submitted.
+-- Requests of a number.
 use Rattle.std.proofs.Common.{◌≡◌, ℕ, Bool, true, false, ◌||◌, ◌==◌, List, [], ◌∷◌, ◌++◌, Some, find, refl, ap}
 use Rattle.mp_words.specs.Request.{Asked, Tried}
 use Rattle.mp_legal.specs.PlainState.{with_tries}
@@ -21,11 +21,3 @@ with_tries_other req tries [] none = refl
 with_tries_other req tries (b ∷ requests) none =
     let parts = or_false (b.req == req) (has_req req requests) none in
     rw parts.0 (ap (λ bs. b ∷ bs) (with_tries_other req tries requests parts.1))
-
--- among requests of other numbers one gets its tries
-pub with_tries_behind : (req : ℕ) (tries : List Tried) (before after : List Asked) (a : Asked) → has_req req before ≡ false → (a.req == req) ≡ true → has_req req after ≡ false
-    → with_tries req tries (before ++ a ∷ after) ≡ before ++ record a { tries = tries } ∷ after
-with_tries_behind req tries [] after a none is rest = rw is (ap (λ bs. record a { tries = tries } ∷ bs) (with_tries_other req tries after rest))
-with_tries_behind req tries (b ∷ before) after a none is rest =
-    let parts = or_false (b.req == req) (has_req req before) none in
-    rw parts.0 (ap (λ bs. b ∷ bs) (with_tries_behind req tries before after a parts.1 is rest))

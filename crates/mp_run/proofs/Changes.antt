@@ -1,11 +1,12 @@
 -- What changes leave of flights, numbers and tries.
-use Rattle.std.proofs.Common.{◌≡◌, ℕ, zero, suc, Bool, true, false, not, ◌||◌, ◌==◌, List, [], ◌∷◌, ◌++◌, ◌⊎◌, inl, inr, map, filter, get_or, set, Some, None, refl, sym, ap, ◌∙◌, subst, eq-eqb, arith}
-use Rattle.std.specs.List.{last_or}
+use Rattle.std.proofs.Common.{◌≡◌, ℕ, zero, suc, Bool, true, false, not, ◌&&◌, ◌||◌, ◌==◌, List, [], ◌∷◌, ◌++◌, ◌⊎◌, inl, inr, map, filter, get_or, set, Some, None, refl, sym, ap, ◌∙◌, subst, eq-eqb, arith}
+use Rattle.std.specs.List.{last_or, list_any}
 use Rattle.std.proofs.lemmas.Bool.{cases_Bool, eqb-true, cases_eq}
 use Rattle.std.proofs.lemmas.List.{get_or-set_other}
 use Rattle.mp_checks.specs.Marks.{has}
 use Rattle.mp_words.specs.declared.flight.Flight.{Flight}
 use Rattle.mp_words.specs.Request.{Asked, Tried, outcome_of}
+use Rattle.mp_core.specs.Views.{is_flight}
 use Rattle.mp_legal.specs.PlainState.{State, with_tries}
 use Rattle.mp_legal.specs.PlainLine.{flights_of}
 use Rattle.mp_legal.specs.Numbers.{has_req, has_flight, asked_at, standing}
@@ -62,7 +63,7 @@ flight-append (g ∷ fs) f req has_it =
       | inr e ↦ elim (flight-append fs f req e) [ inl in_it ↦ inl (true_or (g.req == req) (has_flight req fs) in_it) | inr is ↦ inr is ]
     ]
 
-flight-filter : (fs : List Flight) (gone req : ℕ) → has_flight req (filter (λ f. not (f.req == gone)) fs) ≡ true → (has_flight req fs ≡ true) × ((req == gone) ≡ false)
+pub flight-filter : (fs : List Flight) (gone req : ℕ) → has_flight req (filter (λ f. not (f.req == gone)) fs) ≡ true → (has_flight req fs ≡ true) × ((req == gone) ≡ false)
 flight-filter [] gone req has_it = absurd cc
 flight-filter (f ∷ fs) gone req has_it =
     elim (cases_Bool (f.req == gone)) [
@@ -188,6 +189,62 @@ distinct_without (x ∷ xs) ys n d =
 pub differs : (xs : List ℕ) (n m : ℕ) → has xs n ≡ true → has xs m ≡ false → (n == m) ≡ false
 differs xs n m p q = not_true (n == m) (λ e. let same : n ≡ m = eqb-true n m e in let q2 : has xs n ≡ false = ap (has xs) same ∙ q in cc)
 
+-- one number more in the middle
+pub has_insert : (xs ys : List ℕ) (n m : ℕ) → has (xs ++ n ∷ ys) m ≡ true → (n ≡ m) ⊎ (has (xs ++ ys) m ≡ true)
+has_insert [] ys n m e = elim (or_true (n == m) (has ys m) e) [ inl same ↦ inl (eqb-true n m same) | inr rest ↦ inr rest ]
+has_insert (x ∷ xs) ys n m e =
+    elim (or_true (x == m) (has (xs ++ n ∷ ys) m) e) [
+      | inl same ↦ inr (rw same refl)
+      | inr rest ↦ elim (has_insert xs ys n m rest) [ inl is ↦ inl is | inr old ↦ inr (true_or (x == m) (has (xs ++ ys) m) old) ]
+    ]
+
+pub distinct_with : (xs ys : List ℕ) (n : ℕ) → IsDistinct (xs ++ ys) → has (xs ++ ys) n ≡ false → IsDistinct (xs ++ n ∷ ys)
+distinct_with [] ys n d new = (new, d)
+distinct_with (x ∷ xs) ys n d new =
+    let parts = or_false (x == n) (has (xs ++ ys) n) new in (
+      not_true (has (xs ++ n ∷ ys) x) (λ e. elim (has_insert xs ys n x e) [
+        | inl is ↦ let same : (x == n) ≡ true = eq-eqb x n (sym is) in let off : (x == n) ≡ false = parts.0 in cc
+        | inr old ↦ let no_one : has (xs ++ ys) x ≡ false = d.0 in cc
+      ]),
+      distinct_with xs ys n d.1 parts.1,
+    )
+
+-- ---- flights that stay
+
+pub same_req : (f g : Flight) → is_flight f g ≡ true → (g.req == f.req) ≡ true
+same_req f g same = third (g.slot == f.slot) (g.version == f.version) (g.req == f.req) (g.lane == f.lane) same
+  where
+    third : (a b c d : Bool) → (a && b && c && d) ≡ true → c ≡ true
+    third a b true d e = refl
+    third true true false d e = absurd cc
+    third true false false d e = absurd cc
+    third false b false d e = absurd cc
+
+pub is_itself : (f : Flight) → is_flight f f ≡ true
+is_itself f = rw (eq-eqb f.slot f.slot refl, eq-eqb f.version f.version refl, eq-eqb f.req f.req refl, eq-eqb f.lane f.lane refl) refl
+
+filter-keeps : (fs : List Flight) (gone : ℕ) (f : Flight) → (f.req == gone) ≡ false → list_any (is_flight f) fs ≡ true → list_any (is_flight f) (filter (λ g. not (g.req == gone)) fs) ≡ true
+filter-keeps [] gone f other there = absurd cc
+filter-keeps (g ∷ fs) gone f other there =
+    elim (cases_Bool (g.req == gone)) [
+      | inl on ↦ elim (or_true (is_flight f g) (list_any (is_flight f) fs) there) [
+        | inl same ↦ let e : g.req ≡ f.req = eqb-true g.req f.req (same_req f g same) in let off : (g.req == gone) ≡ false = rw e other in cc
+        | inr rest ↦ rw on (filter-keeps fs gone f other rest)
+      ]
+      | inr off ↦ rw off (elim (or_true (is_flight f g) (list_any (is_flight f) fs) there) [
+        | inl same ↦ rw same refl
+        | inr rest ↦ true_or (is_flight f g) (list_any (is_flight f) (filter (λ h. not (h.req == gone)) fs)) (filter-keeps fs gone f other rest)
+      ])
+    ]
+
+pub still_flies : (s : State) (at gone : ℕ) (f : Flight) → (f.req == gone) ≡ false → list_any (is_flight f) (flights_of f.lane s) ≡ true
+    → list_any (is_flight f) (get_or (set s.flights at (filter (λ g. not (g.req == gone)) (get_or s.flights at []))) f.lane []) ≡ true
+still_flies s at gone f other there =
+    elim (flights_set s.flights at f.lane (filter (λ g. not (g.req == gone)) (get_or s.flights at []))) [
+      | inl kept ↦ rw kept.0 there
+      | inr new ↦ rw new.1 (filter-keeps (get_or s.flights at []) gone f other (ap (λ n. list_any (is_flight f) (get_or s.flights n [])) (sym new.0) ∙ there))
+    ]
+
 -- the flights that were there, and the new one
 flight-front : (fs gs : List Flight) (req : ℕ) → has_flight req fs ≡ true → has_flight req (fs ++ gs) ≡ true
 flight-front [] gs req e = absurd cc
@@ -205,18 +262,18 @@ before_more s at lane req f e =
       | inr new ↦ rw new.1 (flight-front (get_or s.flights at []) (f ∷ []) req (ap (λ n. has_flight req (get_or s.flights n [])) (sym new.0) ∙ e))
     ]
 
--- flights that stay
-filter-keeps : (fs : List Flight) (gone req : ℕ) → has_flight req fs ≡ true → (req == gone) ≡ false → has_flight req (filter (λ f. not (f.req == gone)) fs) ≡ true
-filter-keeps [] gone req has_it other = absurd cc
-filter-keeps (f ∷ fs) gone req has_it other =
+-- flights of other requests stay
+filter-stays : (fs : List Flight) (gone req : ℕ) → has_flight req fs ≡ true → (req == gone) ≡ false → has_flight req (filter (λ f. not (f.req == gone)) fs) ≡ true
+filter-stays [] gone req has_it other = absurd cc
+filter-stays (f ∷ fs) gone req has_it other =
     elim (cases_Bool (f.req == gone)) [
       | inl on ↦ elim (or_true (f.req == req) (has_flight req fs) has_it) [
         | inl same ↦ let e : f.req ≡ req = eqb-true f.req req same in let off : (f.req == gone) ≡ false = rw e other in cc
-        | inr rest ↦ rw on (filter-keeps fs gone req rest other)
+        | inr rest ↦ rw on (filter-stays fs gone req rest other)
       ]
       | inr off ↦ rw off (elim (or_true (f.req == req) (has_flight req fs) has_it) [
         | inl same ↦ rw same refl
-        | inr rest ↦ true_or (f.req == req) (has_flight req (filter (λ g. not (g.req == gone)) fs)) (filter-keeps fs gone req rest other)
+        | inr rest ↦ true_or (f.req == req) (has_flight req (filter (λ g. not (g.req == gone)) fs)) (filter-stays fs gone req rest other)
       ])
     ]
 
@@ -225,5 +282,5 @@ pub still_there : (s : State) (at gone lane req : ℕ) → has_flight req (fligh
 still_there s at gone lane req there other =
     elim (flights_set s.flights at lane (filter (λ f. not (f.req == gone)) (get_or s.flights at []))) [
       | inl kept ↦ rw kept.0 there
-      | inr new ↦ rw new.1 (filter-keeps (get_or s.flights at []) gone req (ap (λ n. has_flight req (get_or s.flights n [])) (sym new.0) ∙ there) other)
+      | inr new ↦ rw new.1 (filter-stays (get_or s.flights at []) gone req (ap (λ n. has_flight req (get_or s.flights n [])) (sym new.0) ∙ there) other)
     ]

@@ -19,7 +19,6 @@ use Rattle.mp_legal.specs.PlainState.{State, request_of, with_tries}
 use Rattle.mp_legal.specs.PlainFinish.{ended_tries, ended_try, back_of, after_back, landed, finished}
 use Rattle.mp_legal.specs.Numbers.{has_req, asked_at}
 use Rattle.mp_run.proofs.Standing.{other_asked, this_asked}
-use Rattle.mp_run.proofs.Chosen.{request_is}
 
 -- the attempt of a scripted status is still to come
 abbrev pub is_open : List Asked → Answer → Bool
@@ -211,7 +210,7 @@ by_class answers lane s f before t were opened there same attempts c is =
     let waiting : (finished answers lane s f).state.waiting ≡ s.waiting ++ listed way f.req = ap (λ (u : State). u.waiting) step ∙ back_waiting f way left_s in
     let own_new : attempts_of (asked_at f.req (with_tries f.req new s.requests)).tries ≡ attempts_of before + length statuses =
     ap (λ (a : Asked). attempts_of a.tries) (this_asked f.req new s.requests there) ∙ ap (λ (ts : List Tried). attempts_of (ended_tries statuses way ts)) same ∙ attempts_ended statuses way before t in
-    let own_old : attempts_of (asked_at f.req s.requests).tries ≡ attempts_of before = ap (λ (a : Asked). attempts_of a.tries) (sym (request_is s f.req)) ∙ attempts in
+    let own_old : attempts_of (asked_at f.req s.requests).tries ≡ attempts_of before = attempts in
     let grows : Grows f.req (length statuses) s.requests (with_tries f.req new s.requests) = record {
       own = omega (arith, own_new, own_old);
       others = λ r other. other_asked r f.req new s.requests other;
@@ -224,7 +223,7 @@ pub finish_fewer : (answers : List Answer) (lane : ℕ) (s : State) (f : Flight)
     → to_come answers (finished answers lane s f).state ≤ to_come answers s
 finish_fewer answers lane s f before t were opened there =
     let tries : List Tried = (request_of s f.req).tries in
-    let same : tries ≡ before ++ t ∷ [] = ap (λ (a : Asked). a.tries) (request_is s f.req) ∙ were in
+    let same : tries ≡ before ++ t ∷ [] = were in
     let attempts : attempts_of tries ≡ attempts_of before = let e = ap attempts_of same ∙ attempts-append before t in let none : length t.statuses ≡ 0 = ap length opened in omega (arith, e, none) in
     let statuses : List ℕ = hop_statuses answers f.req (attempts_of tries + 1) in
     by_class answers lane s f before t were opened there same attempts (class_of_hop statuses) refl

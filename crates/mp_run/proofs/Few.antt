@@ -8,8 +8,11 @@ use Rattle.mp_words.specs.declared.flight.Flight.{Flight}
 use Rattle.mp_legal.specs.PlainState.{State}
 use Rattle.mp_legal.specs.PlainLine.{flights_of}
 use Rattle.mp_script.specs.Distinct.{IsDistinct}
-use Rattle.mp_run.specs.Sound.{IsSound}
+use Rattle.mp_run.specs.Sound.{IsSound, AreThere}
 use Rattle.mp_run.proofs.ByNumber.{or_false}
+use Rattle.mp_legal.specs.Numbers.{has_flight, standing}
+use Rattle.mp_words.specs.declared.trying.Outcome.TheVariants.{Sent}
+use Rattle.mp_run.proofs.Ends.{flies_by}
 use Rattle.mp_run.proofs.Standing.{sent_there}
 use Rattle.mp_run.proofs.Changes.{has-flights, not_true, or_true, true_or}
 
@@ -61,14 +64,35 @@ few (suc n) xs distinct below =
     omega (arith, but_length n xs distinct)
 
 -- at most as many fly in a lane, and wait, as there are numbers
-pub few_fly : (s : State) (lane : ℕ) (others : List ℕ) → IsSound s others → length (flights_of lane s) ≤ 65536
-few_fly s lane others sound =
-    let numbers = map (λ (f : Flight). f.req) (flights_of lane s) in
-    let all : length numbers ≤ 65536 = few 65536 numbers (sound.once lane) (λ m e. sound.small m (sent_there m s.requests (sound.sent lane m (sym (has-flights (flights_of lane s) m) ∙ e)))) in
-    omega (arith, length-map (flights_of lane s) (λ (f : Flight). f.req))
+numbers_once : (s : State) (fs : List Flight) → AreThere s fs → IsDistinct (map (λ f. f.req) fs)
+numbers_once s [] there = tt
+numbers_once s (f ∷ fs) there = (has-flights fs f.req ∙ there.1, numbers_once s fs there.2)
+
+number_sent : (s : State) (fs : List Flight) (others : List ℕ) (req : ℕ) → IsSound s others → AreThere s fs → has_flight req fs ≡ true → standing req s.requests ≡ Sent
+number_sent s [] others req sound there has_it = absurd cc
+number_sent s (f ∷ fs) others req sound there has_it =
+    elim (or_true (f.req == req) (has_flight req fs) has_it) [
+      | inl same ↦ let e : f.req ≡ req = eqb-true f.req req same in ap (λ n. standing n s.requests) (sym e) ∙ sound.sent f.lane f.req (flies_by f (flights_of f.lane s) there.0)
+      | inr rest ↦ number_sent s fs others req sound there.2 rest
+    ]
+
+pub few_there : (s : State) (fs : List Flight) (others : List ℕ) → IsSound s others → AreThere s fs → length fs ≤ 65536
+few_there s fs others sound there =
+    let numbers = map (λ (f : Flight). f.req) fs in
+    let all : length numbers ≤ 65536 = few 65536 numbers (numbers_once s fs there) (λ m e. sound.small m (sent_there m s.requests (number_sent s fs others m sound there (sym (has-flights fs m) ∙ e)))) in
+    omega (arith, length-map fs (λ (f : Flight). f.req))
 
 pub few_wait : (s : State) → IsSound s [] → length s.waiting ≤ 65536
 few_wait s sound =
     let nil : s.waiting ++ [] ≡ s.waiting = append-nil s.waiting in
     let all : length (s.waiting ++ []) ≤ 65536 = few 65536 (s.waiting ++ []) sound.queued (λ m e. sound.small m (sound.waits m e).1) in
     rw nil at all
+
+le_append : (xs ys : List ℕ) → length ys ≤ length (xs ++ ys)
+le_append [] ys = omega arith
+le_append (x ∷ xs) ys = omega (arith, le_append xs ys)
+
+pub few_others : (s : State) (others : List ℕ) → IsSound s others → length others ≤ 65536
+few_others s others sound =
+    let all : length (s.waiting ++ others) ≤ 65536 = few 65536 (s.waiting ++ others) sound.queued (λ m e. sound.small m (sound.waits m e).1) in
+    omega (arith, all, le_append s.waiting others)

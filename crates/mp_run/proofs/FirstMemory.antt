@@ -1,10 +1,11 @@
 -- The words of the opening are packed and lawful, and have room.
-use Rattle.std.proofs.Common.{◌≡◌, ℕ, zero, suc, ◌+◌, ◌*◌, ◌-◌, ◌<◌, ◌≤◌, ◌==◌, Bool, true, false, true≢false, not, ◌||◌, List, [], ◌∷◌, ◌++◌, length, take, map, replicate, get_or, set, Option, Some, None, Result, Ok, Err, refl, sym, ap, subst, ◌∙◌, arith, if◌then◌else◌}
+use Rattle.std.proofs.Common.{◌≡◌, ℕ, zero, suc, ◌+◌, ◌*◌, ◌-◌, ◌<◌, ◌≤◌, ◌==◌, Bool, true, false, true≢false, not, ◌||◌, List, [], ◌∷◌, ◌++◌, length, take, map, replicate, get_or, set, Option, Some, None, Result, Ok, Err, inl, inr, refl, sym, ap, subst, ◌∙◌, arith, if◌then◌else◌}
 use Rattle.std.specs.Prelude.{IfSome, All, slice_get}
 use Rattle.std.specs.List.{range_with_len}
 use Rattle.std.proofs.lemmas.Bool.Decides.{nat_tests}
 use Rattle.std.proofs.lemmas.List.{append-nil, get_or_default, length-append, length-take-le, map-set, take_all}
 use Rattle.std.proofs.lemmas.List.FromFn.{length-range_with_len}
+use Rattle.mp_words.proofs.Places.{cases_lt}
 use Rattle.mp_words.specs.declared.row.Row.{Row}
 use Rattle.mp_words.specs.declared.row.Policy.{Policy}
 use Rattle.mp_words.specs.declared.order.Order.{Order}
@@ -24,7 +25,7 @@ use Rattle.mp_topology.specs.declared.topology.Controller.{Controller}
 use Rattle.mp_topology.specs.Facts.{IsTopology}
 use Rattle.mp_script.specs.declared.script.World.{World}
 use Rattle.mp_core.specs.Memory.{row_at, no_side}
-use Rattle.mp_core.specs.Status.{has, lists}
+use Rattle.mp_core.specs.Status.{has, lists, begins, first_of_row, listed, unused}
 use Rattle.mp_core.specs.Unpacked.{unpacked}
 use Rattle.mp_plain.specs.Packed.{IsPacked}
 use Rattle.mp_rule.specs.Lawful.{IsLawful, HasRoom}
@@ -164,7 +165,7 @@ listed_below s (suc len) (suc m) from (suc n) k few e = by_test (from == s) refl
     by_test false is h below = let low : s < (from + 1) + n = below h in omega (arith, low)
 
 -- of so many of the same each is that
-same : {X : Type 0} → (n s : ℕ) (x : X) → get_or (replicate n x) s x ≡ x
+pub same : {X : Type 0} → (n s : ℕ) (x : X) → get_or (replicate n x) s x ≡ x
 same zero s x = refl
 same (suc n) zero x = refl
 same (suc n) (suc s) x = same n s x
@@ -215,6 +216,59 @@ opening_room i o = record {
   rows = λ s. let e = (row_first i o.states s).first in omega (arith, e);
   order = omega arith;
 }
+
+not_same : (x y : ℕ) → (x == y) ≡ false → x ≡ y → ⊥
+not_same x y e f = grind (arith, nat_tests)
+
+or_later : (b : Bool) (x y : ℕ) (rest : Bool) → (x == y) ≡ b → (b ≡ false → rest ≡ true) → ((x == y) || rest) ≡ true
+or_later true x y rest is later = rw is refl
+or_later false x y rest is later = rw (is, later refl) refl
+
+further : (x y : ℕ) → x ≤ y → (x ≡ y → ⊥) → x + 1 ≤ y
+further x y le apart = grind arith
+
+-- each first slot is listed
+listed_there : (s len m from n k : ℕ) → from ≤ s → s < from + n → n ≤ len → n ≤ m → has s (take len (take m (range_with_len from n ++ replicate k 0))) ≡ true
+listed_there s len m from zero k low high a b = absurd (omega arith)
+listed_there s zero m from (suc n) k low high a b = absurd (omega arith)
+listed_there s (suc len) zero from (suc n) k low high a b = absurd (omega arith)
+listed_there s (suc len) (suc m) from (suc n) k low high a b =
+    or_later (from == s) from s (has s (take len (take m (range_with_len (from + 1) n ++ replicate k 0)))) refl
+    (λ apart. listed_there s len m (from + 1) n k (further from s low (not_same from s apart)) (omega (arith, high)) (omega (arith, a)) (omega (arith, b)))
+
+-- the row of each slot past the opened ones is a free one
+rows_free : (f : ℕ → Row) (n k : ℕ) (cs : List ℕ) (s : ℕ) → length cs ≤ s → get_or (take n (map f cs ++ replicate k (free_row 0))) s (free_row 0) ≡ free_row 0
+rows_free f zero k cs s past = refl
+rows_free f (suc n) zero [] s past = refl
+rows_free f (suc n) (suc k) [] zero past = refl
+rows_free f (suc n) (suc k) [] (suc s) past = rows_free f n k [] s (omega arith)
+rows_free f (suc n) k (c ∷ cs) zero past = absurd (omega arith)
+rows_free f (suc n) k (c ∷ cs) (suc s) past = rows_free f n k cs s (omega arith)
+
+given_listed : (given marked : Bool) → given ≡ true → marked ≡ false → begins given marked true ≡ listed
+given_listed given marked g m = (λ i. begins (g i) (m i) true)
+
+-- each slot of the opening is listed or unused
+pub opening_keeps : (i : Inputs) → IsOpened i → (s : ℕ) → first_of_row (row_at (memory_of (opening i)) s) (lists s (opening i).order) ≡ (if lists s (opening i).order then listed else unused)
+opening_keeps i o s = by_list (lists s (opening i).order) refl
+  where
+    row : Row
+    row = row_at (memory_of (opening i)) s
+
+    past : (n len : ℕ) → len ≡ n → n ≤ 8 → has s (take len (take 8 (range_with_len 0 n ++ replicate 8 0))) ≡ false → n ≤ s
+    past n len is few none =
+        elim (cases_lt s n) [
+          | inl low ↦ absurd (true≢false (sym (listed_there s len 8 0 n 8 (omega arith) (omega (arith, low)) (omega (arith, is)) (omega (arith, few))) ∙ none))
+          | inr high ↦ high
+        ]
+
+    by_list : (b : Bool) → lists s (opening i).order ≡ b → first_of_row row b ≡ (if b then listed else unused)
+    by_list true is = given_listed (is_given row) row.marked (listed_given i o s is) (row_first i o.states s).unmarked
+    by_list false is =
+        let n = length i.topology.opening in
+        let high : n ≤ s = past n (length (range_with_len 0 n)) (length-range_with_len 0 n) o.few is in
+        let free : row ≡ free_row 0 = rows_free (λ ctrl. opening_row i ctrl (slice_get i.topology.controllers ctrl)) 15 15 i.topology.opening s high in
+        ap (λ (r : Row). first_of_row r false) free
 
 -- words that say rows
 

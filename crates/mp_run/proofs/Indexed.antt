@@ -1,80 +1,14 @@
 -- What an index finds.
-use Rattle.std.proofs.Common.{◌≡◌, ℕ, zero, suc, ◌+◌, ◌<◌, ◌≤◌, true, false, not, ◌==◌, List, [], ◌∷◌, ◌++◌, inl, inr, map, filter, length, replicate, get_or, set, Option, Some, None, refl, sym, ap, ◌∙◌, cond, arith}
+use Rattle.std.proofs.Common.{◌≡◌, ℕ, zero, suc, ◌+◌, ◌<◌, ◌≤◌, false, not, ◌==◌, List, [], ◌∷◌, ◌++◌, inl, inr, filter, length, replicate, get_or, set, Option, Some, None, refl, sym, ap, ◌∙◌, cond, arith}
 use Rattle.std.specs.Prelude.{slice_index}
 use Rattle.std.specs.Option.{option_to_list}
 use Rattle.std.proofs.lemmas.Bool.{cases_Bool, eqb-true}
 use Rattle.mp_words.specs.declared.flight.Flight.{Flight}
-use Rattle.std.proofs.lemmas.List.{length-map, get_or-map, map-set}
-use Rattle.mp_words.specs.Request.{Asked, Tried, asked_of}
-use Rattle.mp_words.specs.RequestView.{RequestView}
-use Rattle.mp_legal.specs.PlainState.{with_tries}
 use Rattle.mp_legal.specs.PlainLine.{flights_with}
-use Rattle.mp_legal.specs.Numbers.{has_req, asked_at, has_flight}
-use Rattle.mp_run.specs.Indexed.{AreIndexed, ArePlaced}
+use Rattle.mp_legal.specs.Numbers.{has_flight}
+use Rattle.mp_run.specs.Indexed.{ArePlaced}
 use Rattle.mp_run.specs.Flying.{flying, flight_of}
-use Rattle.mp_run.proofs.ByNumber.{with_tries_other, or_false}
-
-abbrev nobody : Asked
-nobody = record { req = 0; node = 0; tries = [] }
-
--- Where a request stands whose number the index has, where the first stands at a place.
-pub record Stands (index : List ℕ) (place req : ℕ) (requests : List Asked) : Type 0 where
-  pub behind : ℕ
-  pub is : slice_index index req ≡ place + behind
-  pub within : behind < length requests
-  pub found : (d : Asked) → get_or requests behind d ≡ asked_at req requests
-  pub changed : (tries : List Tried) → set requests behind (record (asked_at req requests) { tries = tries }) ≡ with_tries req tries requests
-
--- no request from a place on has a number of an earlier place
-pub none_later : (index : List ℕ) (place req : ℕ) (requests : List Asked) → AreIndexed index place requests → slice_index index req < place → has_req req requests ≡ false
-none_later index place req [] indexed before = refl
-none_later index place req (a ∷ requests) indexed before =
-    elim (cases_Bool (a.req == req)) [
-      | inl same_one ↦ let e : a.req ≡ req = eqb-true a.req req same_one in
-          let same : slice_index index a.req ≡ slice_index index req = ap (slice_index index) e in
-          absurd (omega (arith, indexed.0))
-      | inr other_one ↦ rw other_one (none_later index (suc place) req requests indexed.1 (omega arith))
-    ]
-
-pub stands : (index : List ℕ) (place req : ℕ) (requests : List Asked) → AreIndexed index place requests → has_req req requests ≡ true → Stands index place req requests
-stands index place req [] indexed has = absurd cc
-stands index place req (a ∷ requests) indexed has =
-    elim (cases_Bool (a.req == req)) [
-      | inl same_one ↦ let e : a.req ≡ req = eqb-true a.req req same_one in
-          let at : slice_index index req ≡ place = ap (slice_index index) (sym e) ∙ indexed.0 in
-          let others : has_req req requests ≡ false = none_later index (suc place) req requests indexed.1 (omega arith) in
-          record {
-            behind = 0;
-            is = omega arith;
-            within = omega arith;
-            found = λ d. rw same_one refl;
-            changed = λ tries. rw same_one (ap (λ (bs : List Asked). record a { tries = tries } ∷ bs) (sym (with_tries_other req tries requests others)));
-          }
-      | inr other_one ↦ let has_it : has_req req requests ≡ true = rw other_one at has in
-          let more : Stands index (suc place) req requests = stands index (suc place) req requests indexed.1 has_it in
-          record {
-            behind = suc more.behind;
-            is = omega (arith, more.is);
-            within = omega (arith, more.within);
-            found = λ d. rw other_one (more.found d);
-            changed = λ tries. rw other_one (ap (λ (bs : List Asked). a ∷ bs) (more.changed tries));
-          }
-    ]
-
--- the places of other requests stay
-pub indexed_put : (old new : List ℕ) (place req at : ℕ) (requests : List Asked) → AreIndexed old place requests → has_req req requests ≡ false
-    → ((number : ℕ) → slice_index new number ≡ cond (number == req) at (slice_index old number)) → AreIndexed new place requests
-indexed_put old new place req at [] indexed none put = tt
-indexed_put old new place req at (a ∷ requests) indexed none put =
-    let parts = or_false (a.req == req) (has_req req requests) none in
-    let same : slice_index new a.req ≡ slice_index old a.req = put a.req ∙ rw parts.0 refl in
-    (same ∙ indexed.0, indexed_put old new (suc place) req at requests indexed.1 parts.1 put)
-
--- one request more
-pub indexed_more : (index : List ℕ) (place : ℕ) (requests : List Asked) (a : Asked) → AreIndexed index place requests → slice_index index a.req ≡ place + length requests
-    → AreIndexed index place (requests ++ a ∷ [])
-indexed_more index place [] a indexed is = (omega arith, tt)
-indexed_more index place (b ∷ requests) a indexed is = (indexed.0, indexed_more index (suc place) requests a indexed.1 (omega arith))
+use Rattle.mp_run.proofs.ByNumber.{or_false}
 
 -- no flight from a place on is of a number of an earlier place
 pub none_flies : (index : List ℕ) (place req : ℕ) (sent : List (Option Flight)) → ArePlaced index place sent → slice_index index req < place → has_flight req (flying sent) ≡ false
@@ -181,10 +115,6 @@ flying-append (None ∷ sent) more = flying-append sent more
 flying-append (Some f ∷ sent) more = ap (λ (fs : List Flight). f ∷ fs) (flying-append sent more)
 
 -- an index of the same places
-pub indexed_same : (old new : List ℕ) (place : ℕ) (requests : List Asked) → AreIndexed old place requests → ((number : ℕ) → slice_index new number ≡ slice_index old number) → AreIndexed new place requests
-indexed_same old new place [] indexed same = tt
-indexed_same old new place (a ∷ requests) indexed same = (same a.req ∙ indexed.0, indexed_same old new (suc place) requests indexed.1 same)
-
 pub placed_same : (old new : List ℕ) (place : ℕ) (sent : List (Option Flight)) → ArePlaced old place sent → ((number : ℕ) → slice_index new number ≡ slice_index old number) → ArePlaced new place sent
 placed_same old new place [] placed same = tt
 placed_same old new place (None ∷ sent) placed same = placed_same old new (suc place) sent placed same
@@ -197,33 +127,6 @@ filled [] (suc more) zero = refl
 filled [] (suc more) (suc number) = filled [] more number
 filled (n ∷ index) more zero = refl
 filled (n ∷ index) more (suc number) = filled index more number
-
--- the element of a request
-pub stands_at : (index : List ℕ) (req : ℕ) (all : List RequestView) (place : ℕ) (old : RequestView) → Stands index 0 req (map asked_of all) → place ≡ slice_index index req → old ≡ get_or all place old
-    → asked_of old ≡ asked_at req (map asked_of all)
-stands_at index req all place old it at is =
-    let there : place ≡ it.behind = omega (arith, it.is) in
-    let lt : place < length all = omega (arith, it.within, length-map all asked_of) in
-    ap asked_of is ∙ sym (get_or-map asked_of all place old nobody lt) ∙ ap (λ n. get_or (map asked_of all) n nobody) there ∙ it.found nobody
-
--- the request with other tries
-pub stands_set : (index : List ℕ) (req : ℕ) (all : List RequestView) (place : ℕ) (old new : RequestView) (f : List Tried → List Tried) → Stands index 0 req (map asked_of all) → place ≡ slice_index index req
-    → old ≡ get_or all place old → asked_of new ≡ record (asked_of old) { tries = f (asked_of old).tries } → map asked_of (set all place new) ≡ with_tries req (f (asked_at req (map asked_of all)).tries) (map asked_of all)
-stands_set index req all place old new f it at is made =
-    let there : place ≡ it.behind = omega (arith, it.is) in
-    let e : asked_of old ≡ asked_at req (map asked_of all) = stands_at index req all place old it at is in
-    map-set asked_of all place new
-    ∙ ap (λ (a : Asked). set (map asked_of all) place a) (made ∙ ap (λ (a : Asked). record a { tries = f a.tries }) e)
-    ∙ ap (λ n. set (map asked_of all) n (record (asked_at req (map asked_of all)) { tries = f (asked_at req (map asked_of all)).tries })) there
-    ∙ it.changed (f (asked_at req (map asked_of all)).tries)
-
--- an element of the same number
-pub indexed_set : (index : List ℕ) (place n : ℕ) (all : List RequestView) (old new : RequestView) → old ≡ get_or all n old → new.id ≡ old.id → AreIndexed index place (map asked_of all)
-    → AreIndexed index place (map asked_of (set all n new))
-indexed_set index place n [] old new is same indexed = tt
-indexed_set index place zero (r ∷ all) old new is same indexed =
-    (ap (slice_index index) (same ∙ ap (λ (v : RequestView). v.id) is) ∙ indexed.0, indexed.1)
-indexed_set index place (suc n) (r ∷ all) old new is same indexed = (indexed.0, indexed_set index (suc place) n all old new is same indexed.1)
 
 -- no more fly than places are
 pub flying-length-le : (sent : List (Option Flight)) → length (flying sent) ≤ length sent

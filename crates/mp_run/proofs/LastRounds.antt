@@ -25,7 +25,7 @@ use Rattle.mp_legal.specs.Drain.{drain_place, finishes_all, sends_and_finishes, 
 use Rattle.mp_run.specs.LastRound.{last_round}
 use Rattle.mp_run.proofs.Changes.{or_true, has_with_tries, has_middle, has_between}
 use Rattle.mp_record.specs.declared.event.Event.TheVariants.{Try}
-use Rattle.mp_run.proofs.Chosen.{request_is, asked_req}
+use Rattle.mp_run.proofs.Chosen.{asked_req}
 use Rattle.mp_run.specs.LastRound.{CanDrain}
 use Rattle.mp_run.proofs.Coming.{is_open, left, left_fewer, attempts-append, grown_stays, listed, back_waiting, back_requests, back_flights, to_come, finish_fewer, Grows}
 
@@ -149,10 +149,7 @@ sends_bring i s req others can =
     let a : Asked = asked_at req s.requests in
     let number : a.req ≡ req = asked_req req s.requests in
     let end : TryEnd = end_of s (choice_by s.order.policy i.topology.near s a.node) in
-    let same : sends_and_finishes i s req ≡ drained i s a end =
-    ap (λ (b : Asked). drained i s b (end_of s (choice_by s.order.policy i.topology.near s b.node))) (request_is s req) in
-    subst (λ (x : Stepped). Brings i.answers x (to_come i.answers s) 1 others) (sym same)
-    (try_brings i s a end others (ap (λ n. asked_at n s.requests) (sym number)) (subst (λ n. Drains s (n ∷ others)) (sym number) can))
+    try_brings i s a end others (ap (λ n. asked_at n s.requests) (sym number)) (subst (λ n. Drains s (n ∷ others)) (sym number) can)
 
 each_brings : (i : Inputs) (s : State) (requests : List ℕ) → Drains s requests → Brings i.answers (each (sends_and_finishes i) s requests) (to_come i.answers s) (length requests) []
 each_brings i s [] can = record { all = omega arith; sent = λ e. absurd cc; can = can }

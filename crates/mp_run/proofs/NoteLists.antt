@@ -1,23 +1,21 @@
 -- What was noted of requests.
-use Rattle.std.proofs.Common.{◌≡◌, ℕ, zero, suc, ◌+◌, ◌<◌, Bool, true, false, ◌==◌, ◌||◌, Option, List, [], ◌∷◌, ◌++◌, inl, inr, map, length, get_or, set, refl, sym, ap, ◌∙◌, arith, eq-eqb}
-use Rattle.std.specs.Prelude.{slice_index}
+use Rattle.std.proofs.Common.{◌≡◌, ℕ, true, false, ◌==◌, ◌||◌, nat_lt, Option, Some, List, [], ◌∷◌, ◌++◌, inl, inr, map, refl, sym, ap, ◌∙◌, eq-eqb}
 use Rattle.std.proofs.lemmas.Bool.{cases_Bool, eqb-true}
-use Rattle.std.specs.declared.cmp.Ordering.{Ordering}
-use Rattle.std.specs.declared.cmp.Ordering.TheVariants.{Less, Equal, Greater}
-use Rattle.std.specs.BTreeMap.{insert_entry}
-use Rattle.std.specs.Ordering.{nat_cmp, match_ordering}
+use Rattle.std.specs.BTreeMap.{insert_entry, is_at}
+use Rattle.std.specs.Map.{lookup, set_value, values_of}
+use Rattle.std.specs.Ordering.{nat_cmp}
 use Rattle.mp_words.specs.declared.note.Note.{Note}
 use Rattle.mp_legal.specs.TryRead.{TryRead, read_of}
 use Rattle.mp_words.specs.declared.trying.Back.{Back}
 use Rattle.mp_words.specs.declared.trying.Try.{Try}
-use Rattle.mp_words.specs.Request.{Asked, asked_of}
+use Rattle.mp_words.specs.Request.{asked_of}
 use Rattle.mp_words.specs.Request as words
 use Rattle.mp_words.specs.RequestView.{RequestView}
-use Rattle.mp_run.specs.Indexed.{AreIndexed}
-use Rattle.mp_run.specs.Notes.{notes_of, notes_for, reads_in, AreNoted, IsNoted}
+use Rattle.mp_run.specs.Notes.{notes_of, notes_for, reads_in, AreKeyed, AreKept, AreNoted}
 use Rattle.mp_legal.specs.Numbers.{has_req}
 use Rattle.mp_run.proofs.ByNumber.{or_false}
-use Rattle.mp_run.proofs.Indexed.{none_later}
+use Rattle.mp_run.proofs.Keyed.{Entries, Ascend, asked_in, asked_insert, key_is, keyed_insert, keyed_set, none_behind, there_found}
+use Rattle.mp_run.proofs.WithNew.{has-new}
 
 -- two numbers differ, whichever comes first
 differ : (m n : ℕ) → (m == n) ≡ false → (n == m) ≡ false
@@ -56,115 +54,100 @@ noted_other other note made (r ∷ all) none noted =
     let parts = or_false (r.id == other) (has_req other (map asked_of all)) none in
     (noted.0 ∙ sym (notes_other r.id other note made (differ r.id other parts.0)), noted_other other note made all parts.1 noted.1)
 
--- the number of the request at a place has that place
-index_at : (index : List ℕ) (place n : ℕ) (all : List RequestView) (old : RequestView) → AreIndexed index place (map asked_of all) → n < length all → old ≡ get_or all n old
-    → slice_index index old.id ≡ place + n
-index_at index place n [] old indexed lt is = absurd (omega arith)
-index_at index place zero (r ∷ all) old indexed lt is = let at : slice_index index old.id ≡ slice_index index r.id = ap (λ (v : RequestView). slice_index index v.id) is in omega (arith, at, indexed.0)
-index_at index place (suc n) (r ∷ all) old indexed lt is = let more = index_at index (suc place) n all old indexed.1 (omega arith) is in omega (arith, more)
-
--- a try of the request at a place is noted
-noted_tried : (index : List ℕ) (place n : ℕ) (all : List RequestView) (made : List (ℕ × TryRead)) (old new : RequestView) (note : TryRead)
-    → AreIndexed index place (map asked_of all) → n < length all → old ≡ get_or all n old → new.id ≡ old.id → notes_of new ≡ notes_of old ++ note ∷ [] → AreNoted made all
-    → AreNoted (made ++ (old.id, note) ∷ []) (set all n new)
-noted_tried index place n [] made old new note indexed lt is same told noted = absurd (omega arith)
-noted_tried index place zero (r ∷ all) made old new note indexed lt is same told noted =
-    let here : slice_index index old.id ≡ place + 0 = index_at index place 0 (r ∷ all) old indexed lt is in
-    let others : has_req old.id (map asked_of all) ≡ false = none_later index (suc place) old.id (map asked_of all) indexed.1 (omega (arith, here)) in
-    let was : notes_of old ≡ notes_for old.id made = rw is noted.0 in (
-      told ∙ ap (λ (ns : List TryRead). ns ++ note ∷ []) was ∙ sym (notes_own old.id note made) ∙ ap (λ k. notes_for k (made ++ (old.id, note) ∷ [])) (sym same),
-      noted_other old.id note made all others noted.1,
-    )
-noted_tried index place (suc n) (r ∷ all) made old new note indexed lt is same told noted =
-    let there : slice_index index old.id ≡ suc place + n = index_at index (suc place) n all old indexed.1 (omega arith) is in
-    let apart : (old.id == r.id) ≡ false =
-    elim (cases_Bool (old.id == r.id)) [
-      | inl on ↦ let at : slice_index index old.id ≡ slice_index index r.id = ap (slice_index index) (eqb-true old.id r.id on) in absurd (omega (arith, at, there, indexed.0))
-      | inr off ↦ off
-    ] in
-    (noted.0 ∙ sym (notes_other r.id old.id note made apart), noted_tried index (suc place) n all made old new note indexed.1 (omega arith) is same told noted.1)
-
--- the request at a place keeps its number and its notes
-noted_kept : (n : ℕ) (all : List RequestView) (made : List (ℕ × TryRead)) (old new : RequestView) → old ≡ get_or all n old → new.id ≡ old.id → notes_of new ≡ notes_of old → AreNoted made all
-    → AreNoted made (set all n new)
-noted_kept n [] made old new is same told noted = tt
-noted_kept zero (r ∷ all) made old new is same told noted =
-    (told ∙ ap notes_of is ∙ noted.0 ∙ ap (λ (k : ℕ). notes_for k made) (sym (same ∙ ap (λ (v : RequestView). v.id) is)), noted.1)
-noted_kept (suc n) (r ∷ all) made old new is same told noted = (noted.0, noted_kept n all made old new is same told noted.1)
-
--- the numbers stay
-has_kept : (req n : ℕ) (all : List RequestView) (old new : RequestView) → old ≡ get_or all n old → new.id ≡ old.id → has_req req (map asked_of (set all n new)) ≡ has_req req (map asked_of all)
-has_kept req n [] old new is same = refl
-has_kept req zero (r ∷ all) old new is same = ap (λ k. (k == req) || has_req req (map asked_of all)) (same ∙ ap (λ (v : RequestView). v.id) is)
-has_kept req (suc n) (r ∷ all) old new is same = ap (λ b. (r.id == req) || b) (has_kept req n all old new is same)
-
-has_own : (n : ℕ) (all : List RequestView) (old : RequestView) → n < length all → old ≡ get_or all n old → has_req old.id (map asked_of all) ≡ true
-has_own n [] old lt is = absurd (omega arith)
-has_own zero (r ∷ all) old lt is = let same : (r.id == old.id) ≡ true = eq-eqb r.id old.id (sym (ap (λ (v : RequestView). v.id) is)) in rw same refl
-has_own (suc n) (r ∷ all) old lt is = later (r.id == old.id) (has_req old.id (map asked_of all)) (has_own n all old (omega arith) is)
-  where
-    later : (a b : Bool) → b ≡ true → (a || b) ≡ true
-    later true b e = refl
-    later false b e = e
-
--- a try of the request at a place is noted, and no other
-pub is_noted_tried : (index : List ℕ) (n : ℕ) (all : List RequestView) (made : List (ℕ × TryRead)) (old new : RequestView) (note : TryRead)
-    → AreIndexed index 0 (map asked_of all) → n < length all → old ≡ get_or all n old → new.id ≡ old.id → notes_of new ≡ notes_of old ++ note ∷ [] → IsNoted made all
-    → IsNoted (made ++ (old.id, note) ∷ []) (set all n new)
-is_noted_tried index n all made old new note indexed lt is same told noted = record {
-  each = noted_tried index 0 n all made old new note indexed lt is same told noted.each;
-  others = λ req none. others req (sym (has_kept req n all old new is same) ∙ none);
-}
-  where
-    others : (req : ℕ) → has_req req (map asked_of all) ≡ false → notes_for req (made ++ (old.id, note) ∷ []) ≡ []
-    others req none =
-        elim (cases_Bool (old.id == req)) [
-          | inl on ↦ let there : has_req req (map asked_of all) ≡ true = ap (λ k. has_req k (map asked_of all)) (sym (eqb-true old.id req on)) ∙ has_own n all old lt is in absurd cc
-          | inr off ↦ notes_other req old.id note made off ∙ noted.others req none
-        ]
-
--- the request at a place keeps its number and its notes
-pub is_noted_kept : (n : ℕ) (all : List RequestView) (made : List (ℕ × TryRead)) (old new : RequestView) → old ≡ get_or all n old → new.id ≡ old.id → notes_of new ≡ notes_of old → IsNoted made all
-    → IsNoted made (set all n new)
-is_noted_kept n all made old new is same told noted = record {
-  each = noted_kept n all made old new is same told noted.each;
-  others = λ req none. noted.others req (sym (has_kept req n all old new is same) ∙ none);
-}
-
--- a request without tries is added
-pub is_noted_more : (all : List RequestView) (made : List (ℕ × TryRead)) (new : RequestView) → has_req new.id (map asked_of all) ≡ false → notes_of new ≡ [] → IsNoted made all → IsNoted made (all ++ new ∷ [])
-is_noted_more all made new fresh none noted = record {
-  each = more all noted.each;
-  others = λ req out. noted.others req (front req all out);
-}
-  where
-    more : (rs : List RequestView) → AreNoted made rs → AreNoted made (rs ++ new ∷ [])
-    more [] each = (none ∙ sym (noted.others new.id fresh), tt)
-    more (r ∷ rs) each = (each.0, more rs each.1)
-
-    front : (req : ℕ) (rs : List RequestView) → has_req req (map asked_of (rs ++ new ∷ [])) ≡ false → has_req req (map asked_of rs) ≡ false
-    front req [] out = refl
-    front req (r ∷ rs) out = let parts = or_false (r.id == req) (has_req req (map asked_of (rs ++ new ∷ []))) out in rw (parts.0, front req rs parts.1) refl
-
 -- the end of the last try changes no note
 pub notes-ended : (statuses : List ℕ) (count : ℕ) (back : Option Back) (tries : List Try) → map (λ t. read_of t.note) (words.ended_tries statuses count back tries) ≡ map (λ t. read_of t.note) tries
 notes-ended statuses count back [] = refl
 notes-ended statuses count back (t ∷ []) = refl
 notes-ended statuses count back (t ∷ u ∷ ts) = ap (λ (ns : List TryRead). read_of t.note ∷ ns) (notes-ended statuses count back (u ∷ ts))
 
--- the requests of a list and one more
-pub noted_parts : (made : List (ℕ × TryRead)) (all : List RequestView) (r : RequestView) → AreNoted made (all ++ r ∷ []) → AreNoted made all × (notes_of r ≡ notes_for r.id made)
-noted_parts made [] r noted = (tt, noted.0)
-noted_parts made (q ∷ all) r noted = let rest = noted_parts made all r noted.1 in ((noted.0, rest.0), rest.1)
+-- ---- requests that a map keeps by their numbers
 
-noted_by : (made : List (ℕ × TryRead)) (o : Ordering) (e : ℕ × RequestView) (es more : List (ℕ × RequestView)) (k : ℕ) (r : RequestView) → notes_of r ≡ notes_for r.id made
-    → AreNoted made (map (λ entry. entry.1) (e ∷ es)) → AreNoted made (map (λ entry. entry.1) more) → AreNoted made (map (λ entry. entry.1) (match_ordering o ((k, r) ∷ e ∷ es) ((e.0, r) ∷ es) (e ∷ more)))
-noted_by made Less e es more k r own all rest = (own, all)
-noted_by made Equal e es more k r own all rest = (own, all.1)
-noted_by made Greater e es more k r own all rest = (all.0, rest)
+-- a try of a request is noted
+noted_tried : (k : ℕ) (es : Entries) (made : List (ℕ × TryRead)) (old new : RequestView) (note : TryRead) → AreKeyed es → Ascend es → lookup (is_at (nat_cmp k)) es ≡ Some old → new.id ≡ k → notes_of new ≡ notes_of old ++ note ∷ []
+    → AreNoted made (values_of es) → AreNoted (made ++ (k, note) ∷ []) (values_of (set_value (is_at (nat_cmp k)) es new))
+noted_tried k [] made old new note keyed up is own told noted = tt
+noted_tried k (e ∷ es) made old new note keyed up is own told noted =
+    elim (cases_Bool (e.1.id == k)) [
+      | inl on ↦ let here : Some e.1 ≡ Some old = rw (key_is k e keyed.0 ∙ on) at is in let same : e.1 ≡ old = cc in
+          let number : e.1.id ≡ k = eqb-true e.1.id k on in
+          let was : notes_of old ≡ notes_for k made = ap notes_of (sym same) ∙ noted.0 ∙ ap (λ n. notes_for n made) number in
+          rw (key_is k e keyed.0 ∙ on) (
+            told ∙ ap (λ (ns : List TryRead). ns ++ note ∷ []) was ∙ sym (notes_own k note made) ∙ ap (λ n. notes_for n (made ++ (k, note) ∷ [])) (sym own),
+            noted_other k note made (values_of es) (none_behind k e es keyed.0 on keyed.1 up.0) noted.1,
+          )
+      | inr off ↦ rw (key_is k e keyed.0 ∙ off) (
+        noted.0 ∙ sym (notes_other e.1.id k note made (differ e.1.id k off)),
+        noted_tried k es made old new note keyed.1 up.1 (rw (key_is k e keyed.0 ∙ off) at is) own told noted.1,
+      )
+    ]
 
--- a request put at its number
-pub noted_insert : (made : List (ℕ × TryRead)) (es : List (ℕ × RequestView)) (k : ℕ) (r : RequestView) → notes_of r ≡ notes_for r.id made → AreNoted made (map (λ entry. entry.1) es)
-    → AreNoted made (map (λ entry. entry.1) (insert_entry nat_cmp es k r))
-noted_insert made [] k r own all = (own, tt)
-noted_insert made (e ∷ es) k r own all = noted_by made (nat_cmp k e.0) e es (insert_entry nat_cmp es k r) k r own all (noted_insert made es k r own all.1)
+-- a request keeps its notes
+noted_kept : (k : ℕ) (es : Entries) (made : List (ℕ × TryRead)) (old new : RequestView) → AreKeyed es → lookup (is_at (nat_cmp k)) es ≡ Some old → new.id ≡ k → notes_of new ≡ notes_of old → AreNoted made (values_of es)
+    → AreNoted made (values_of (set_value (is_at (nat_cmp k)) es new))
+noted_kept k [] made old new keyed is own told noted = tt
+noted_kept k (e ∷ es) made old new keyed is own told noted =
+    elim (cases_Bool (e.1.id == k)) [
+      | inl on ↦ let here : Some e.1 ≡ Some old = rw (key_is k e keyed.0 ∙ on) at is in let same : e.1 ≡ old = cc in
+          rw (key_is k e keyed.0 ∙ on) (told ∙ ap notes_of (sym same) ∙ noted.0 ∙ ap (λ n. notes_for n made) (eqb-true e.1.id k on ∙ sym own), noted.1)
+      | inr off ↦ rw (key_is k e keyed.0 ∙ off) (noted.0, noted_kept k es made old new keyed.1 (rw (key_is k e keyed.0 ∙ off) at is) own told noted.1)
+    ]
+
+-- the numbers stay
+has_set : (req k : ℕ) (es : Entries) (new : RequestView) → AreKeyed es → new.id ≡ k → has_req req (asked_in (set_value (is_at (nat_cmp k)) es new)) ≡ has_req req (asked_in es)
+has_set req k [] new keyed own = refl
+has_set req k (e ∷ es) new keyed own =
+    elim (cases_Bool (e.1.id == k)) [
+      | inl on ↦ rw (key_is k e keyed.0 ∙ on) (ap (λ n. (n == req) || has_req req (asked_in es)) (own ∙ sym (eqb-true e.1.id k on)))
+      | inr off ↦ rw (key_is k e keyed.0 ∙ off) (ap (λ b. (e.1.id == req) || b) (has_set req k es new keyed.1 own))
+    ]
+
+-- a try of a request is noted, and no other
+pub kept_tried : (k : ℕ) (es : Entries) (made : List (ℕ × TryRead)) (old new : RequestView) (note : TryRead) → Ascend es → lookup (is_at (nat_cmp k)) es ≡ Some old → new.id ≡ k → notes_of new ≡ notes_of old ++ note ∷ []
+    → AreKept es made → AreKept (set_value (is_at (nat_cmp k)) es new) (made ++ (k, note) ∷ [])
+kept_tried k es made old new note up is own told kept = record {
+  keyed = keyed_set k es new kept.keyed own;
+  noted = record {
+    each = noted_tried k es made old new note kept.keyed up is own told kept.noted.each;
+    others = λ req none. others req (sym (has_set req k es new kept.keyed own) ∙ none);
+  };
+}
+  where
+    others : (req : ℕ) → has_req req (asked_in es) ≡ false → notes_for req (made ++ (k, note) ∷ []) ≡ []
+    others req none =
+        elim (cases_Bool (k == req)) [
+          | inl on ↦ let there : has_req k (asked_in es) ≡ true = there_found k es old kept.keyed is in
+              let here : has_req req (asked_in es) ≡ true = ap (λ n. has_req n (asked_in es)) (sym (eqb-true k req on)) ∙ there in absurd cc
+          | inr off ↦ notes_other req k note made off ∙ kept.noted.others req none
+        ]
+
+-- a request keeps its notes, and so do the others
+pub kept_same : (k : ℕ) (es : Entries) (made : List (ℕ × TryRead)) (old new : RequestView) → lookup (is_at (nat_cmp k)) es ≡ Some old → new.id ≡ k → notes_of new ≡ notes_of old
+    → AreKept es made → AreKept (set_value (is_at (nat_cmp k)) es new) made
+kept_same k es made old new is own told kept = record {
+  keyed = keyed_set k es new kept.keyed own;
+  noted = record {
+    each = noted_kept k es made old new kept.keyed is own told kept.noted.each;
+    others = λ req none. kept.noted.others req (sym (has_set req k es new kept.keyed own) ∙ none);
+  };
+}
+
+-- a request without tries is added
+noted_insert : (k : ℕ) (es : Entries) (made : List (ℕ × TryRead)) (r : RequestView) → notes_of r ≡ notes_for r.id made → AreNoted made (values_of es) → AreNoted made (values_of (insert_entry nat_cmp es k r))
+noted_insert k [] made r own all = (own, tt)
+noted_insert k (e ∷ es) made r own all =
+    elim (cases_Bool (nat_lt k e.0)) [
+      | inl low ↦ rw low (own, all)
+      | inr high ↦ rw high (elim (cases_Bool (k == e.0)) [
+        | inl same ↦ rw same (own, all.1)
+        | inr other ↦ rw other (all.0, noted_insert k es made r own all.1)
+      ])
+    ]
+
+pub kept_added : (k : ℕ) (es : Entries) (made : List (ℕ × TryRead)) (r : RequestView) → r.id ≡ k → has_req k (asked_in es) ≡ false → notes_of r ≡ [] → AreKept es made → AreKept (insert_entry nat_cmp es k r) made
+kept_added k es made r own fresh none kept = record {
+  keyed = keyed_insert k es r kept.keyed own;
+  noted = record {
+    each = noted_insert k es made r (none ∙ sym (kept.noted.others r.id (ap (λ n. has_req n (asked_in es)) own ∙ fresh))) kept.noted.each;
+    others = λ req out. kept.noted.others req (or_false (r.id == req) (has_req req (asked_in es)) (sym (has-new req (asked_of r) (asked_in es)) ∙ ap (has_req req) (sym (asked_insert k es r kept.keyed own fresh)) ∙ out)).1;
+  };
+}

@@ -1,69 +1,105 @@
 -- Turns that are taken one by one.
-use Rattle.std.proofs.Common.{◌≡◌, ◌≢◌, ℕ, ◌<◌, Bool, true, false, ◌==◌, ◌||◌, List, [], ◌∷◌, ◌++◌, inl, inr, map, length, get_or, set, Option, Some, None, refl, sym, ap, ◌∙◌, append_assoc, append-nil, eq-eqb}
-use Rattle.std.specs.List.{flat_map}
-use Rattle.std.proofs.lemmas.Bool.{cases_Bool, eqb-true}
-use Rattle.std.proofs.lemmas.List.{get_or-set_same, get_or-set_other, map-append}
+use Rattle.std.proofs.Common.{◌≡◌, ◌≢◌, ℕ, ◌<◌, ◌≤◌, Bool, true, false, ◌==◌, ◌||◌, List, [], ◌∷◌, ◌++◌, inl, inr, map, length, get_or, set, Option, None, refl, sym, ap, ◌∙◌, append_assoc, eq-eqb, arith, subst}
+use Rattle.std.specs.List.{flat_map, range_with_len}
+use Rattle.std.proofs.lemmas.Bool.{cases_Bool, eqb-true, cases_eq}
+use Rattle.std.proofs.lemmas.List.{get_or-set_same, get_or-set_other, ext_get_or, length-set, length-map}
+use Rattle.std.proofs.lemmas.List.FromFn.{length-range_with_len, get_or-map-range_with_len}
 use Rattle.mp_checks.specs.Marks.{has}
-use Rattle.mp_words.specs.declared.near.Near.{Near}
-use Rattle.mp_words.specs.declared.entry.RowEntry.{RowEntry}
-use Rattle.mp_words.specs.declared.entry.OrderEntry.{OrderEntry}
-use Rattle.mp_words.specs.declared.flight.Flight.{Flight}
-use Rattle.mp_words.specs.declared.trying.TryEnd.{TryEnd}
-use Rattle.mp_words.specs.declared.trying.TryEnd.TheVariants.{Sent, Listed, Failed}
 use Rattle.mp_words.specs.Request.{Asked, Tried}
 use Rattle.mp_record.specs.declared.event.Event.{Event}
-use Rattle.mp_script.specs.declared.script.Line.{Line}
-use Rattle.mp_script.specs.declared.script.Line.TheVariants as line
-use Rattle.mp_script.specs.declared.script.Numbered1.{Numbered1}
-use Rattle.mp_legal.specs.PlainState.{State, with_tries, request_of}
+use Rattle.mp_legal.specs.PlainState.{with_tries}
 use Rattle.mp_legal.specs.PlainCall.{Inputs}
-use Rattle.mp_legal.specs.PlainSubmit.{submitted, tried, end_of, choice_by}
-use Rattle.mp_legal.specs.PlainFinish.{finished}
-use Rattle.mp_legal.specs.PlainLine.{turn_step, flights_of, flights_with}
-use Rattle.mp_legal.specs.PlainRun.{Taken, taken, state_after, events_in}
-use Rattle.mp_legal.specs.Stepped.{Stepped, each}
+use Rattle.mp_legal.specs.PlainRun.{Taken, events_in}
 use Rattle.mp_legal.specs.Turns.{Turn}
+use Rattle.mp_legal.specs.Units.{Paid, pay_turn}
 use Rattle.mp_legal.specs.Numbers.{has_req}
 use Rattle.mp_script.specs.Distinct.{IsDistinct}
-use Rattle.mp_run.specs.Engine.{Does, finishes_line}
-use Rattle.mp_run.specs.LaneTurns.{submit_in, IsSimpleTurn}
-use Rattle.mp_script.specs.Facts.{submit_of, IsSimple}
-use Rattle.mp_run.specs.OnTurns.{IsOn}
+use Rattle.mp_run.specs.declared.engine.Engine.{Engine}
+use Rattle.mp_run.specs.Engine.{state_of}
+use Rattle.mp_run.specs.OnTurns.{Stage, stage_of, turns_from, IsOn}
+use Rattle.mp_run.specs.Taking.{left_or, lefts_or, Takes}
 use Rattle.mp_run.proofs.Distinct.{has-reqs}
-use Rattle.mp_run.proofs.FinishLines.{end_step, finish_step, finish_all_step}
 use Rattle.mp_run.proofs.Changes.{not_true}
 
-pub on_first : (i : Inputs) (all : List Turn) (start : State) (old : List (List Event)) → IsOn i all all start start old old
-on_first i all start old = record { state = refl; rows = refl; orders = refl; noted = λ lane. refl }
+pub on_first : (i : Inputs) (all : List Turn) (start : Stage) → IsOn i all all start start
+on_first i all start = record { state = refl; lefts = refl; rows = refl; orders = refl; noted = λ lane. refl }
+
+-- what a turn leads to
+record Leads (p : Paid) (lane : ℕ) (now after : Stage) (before events : List Event) : Type 0 where
+  state : after.state ≡ p.step.state
+  lefts : after.lefts ≡ set now.lefts lane p.left
+  rows : after.rows ≡ now.rows ++ p.step.rows
+  orders : after.orders ≡ now.orders ++ p.step.orders
+  lanes : after.lanes ≡ set now.lanes lane events
+  was : before ≡ get_or now.lanes lane []
+  noted : events ≡ before ++ p.step.events
 
 -- one turn is taken
-pub on_next : (i : Inputs) (all rest : List Turn) (turn : Turn) (start now after : State) (old lanes : List (List Event)) (before events : List Event)
-    → IsOn i all (turn ∷ rest) start now old lanes → turn.lane < length lanes → before ≡ get_or lanes turn.lane [] → Does (turn_step i turn.lane now turn.line) after before events
-    → IsOn i all rest start after old (set lanes turn.lane events)
-on_next i all rest turn start now after old lanes before events on lt was does =
-    let step : Stepped = turn_step i turn.lane now turn.line in
-    let ts : List Taken = taken i step.state rest in
-    record {
-      state = ap (λ (s : State). state_after s (taken i s rest)) does.state ∙ on.state;
-      rows = ap (λ (s : State). flat_map (λ (x : Taken). x.step.rows) (taken i s rest)) does.state
-          ∙ sym (ap (λ (es : List RowEntry). es ++ flat_map (λ (x : Taken). x.step.rows) ts) does.rows) ∙ on.rows;
-      orders = ap (λ (s : State). flat_map (λ (x : Taken). x.step.orders) (taken i s rest)) does.state
-          ∙ sym (ap (λ (es : List OrderEntry). es ++ flat_map (λ (x : Taken). x.step.orders) ts) does.orders) ∙ on.orders;
-      noted = λ lane. ap (λ (s : State). get_or (set lanes turn.lane events) lane [] ++ events_in (taken i s rest) lane) does.state
-          ∙ elim (cases_Bool (turn.lane == lane)) [
-            | inl same ↦ let here : turn.lane ≡ lane = eqb-true turn.lane lane same in
-                let new : get_or (set lanes turn.lane events) lane [] ≡ get_or lanes lane [] ++ step.events =
-                ap (λ n. get_or (set lanes turn.lane events) n []) (sym here) ∙ get_or-set_same lanes turn.lane events [] lt ∙ does.noted ∙ ap (λ (es : List Event). es ++ step.events) (was ∙ ap (λ n. get_or lanes n []) here) in
-                ap (λ (es : List Event). es ++ events_in ts lane) new ∙ append_assoc (get_or lanes lane []) step.events (events_in ts lane) ∙ rw same at (on.noted lane)
-            | inr other ↦ let apart : lane ≢ turn.lane = λ e. differs turn.lane lane (sym e) other in
-                ap (λ (es : List Event). es ++ events_in ts lane) (get_or-set_other lanes turn.lane lane events [] apart) ∙ rw other at (on.noted lane)
-          ];
-    }
+leads_on : (i : Inputs) (all rest : List Turn) (turn : Turn) (start now after : Stage) (before events : List Event) → IsOn i all (turn ∷ rest) start now → turn.lane < length now.lanes
+    → Leads (pay_turn i turn.lane now.state turn.line (get_or now.lefts turn.lane None)) turn.lane now after before events → IsOn i all rest start after
+leads_on i all rest turn start now after before events on lt leads =
+    let p : Paid = pay_turn i turn.lane now.state turn.line (get_or now.lefts turn.lane None) in
+    let next : Stage = record { state = p.step.state; lefts = set now.lefts turn.lane p.left; rows = now.rows ++ p.step.rows; orders = now.orders ++ p.step.orders; lanes = set now.lanes turn.lane events } in
+    let same : after ≡ next = rw (leads.state, leads.lefts, leads.rows, leads.orders, leads.lanes) refl in
+    let ts : List Taken = (turns_from i next rest).taken in
+    let is_on : IsOn i all rest start next = record {
+      state = on.state;
+      lefts = on.lefts;
+      rows = append_assoc now.rows p.step.rows (flat_map (λ (x : Taken). x.step.rows) ts) ∙ on.rows;
+      orders = append_assoc now.orders p.step.orders (flat_map (λ (x : Taken). x.step.orders) ts) ∙ on.orders;
+      noted = λ lane. elim (cases_Bool (turn.lane == lane)) [
+        | inl same_one ↦ let here : turn.lane ≡ lane = eqb-true turn.lane lane same_one in
+            let new : get_or (set now.lanes turn.lane events) lane [] ≡ get_or now.lanes lane [] ++ p.step.events =
+            ap (λ n. get_or (set now.lanes turn.lane events) n []) (sym here) ∙ get_or-set_same now.lanes turn.lane events [] lt ∙ leads.noted ∙ ap (λ (es : List Event). es ++ p.step.events) (leads.was ∙ ap (λ n. get_or now.lanes n []) here) in
+            ap (λ (es : List Event). es ++ events_in ts lane) new ∙ append_assoc (get_or now.lanes lane []) p.step.events (events_in ts lane) ∙ rw same_one at (on.noted lane)
+        | inr other ↦ let apart : lane ≢ turn.lane = λ e. differs turn.lane lane (sym e) other in
+            ap (λ (es : List Event). es ++ events_in ts lane) (get_or-set_other now.lanes turn.lane lane events [] apart) ∙ rw other at (on.noted lane)
+      ];
+    } in
+    rw same is_on
   where
     differs : (a b : ℕ) → a ≡ b → (a == b) ≡ false → ⊥
     differs a b e test = let is : (a == b) ≡ true = eq-eqb a b e in cc
 
--- the numbers of the requests
+-- ---- the units of all lanes
+
+pub lefts-length : (n : ℕ) (spent : List Bool) (e : Engine) → length (lefts_or n spent e) ≡ n
+lefts-length n spent e = length-map (range_with_len 0 n) (λ lane. left_or spent lane e) ∙ length-range_with_len 0 n
+
+pub lefts_at : (n : ℕ) (spent : List Bool) (e : Engine) (lane : ℕ) → lane < n → get_or (lefts_or n spent e) lane None ≡ left_or spent lane e
+lefts_at n spent e lane lt = get_or-map-range_with_len (λ l. left_or spent l e) 0 n lane lane None lt (omega arith)
+
+lefts_next : (n : ℕ) (lane : ℕ) (p : Paid) (spent now : List Bool) (a b : Engine) (old new : List Event) → n ≤ 16 → lane < n → Takes lane p spent now a b old new → lefts_or n now b ≡ set (lefts_or n spent a) lane p.left
+lefts_next n lane p spent now a b old new few lt takes =
+    let len : length (lefts_or n spent a) ≡ n = lefts-length n spent a in
+    ext_get_or None (lefts_or n now b) (set (lefts_or n spent a) lane p.left) (lefts-length n now b ∙ sym (length-set (lefts_or n spent a) lane p.left ∙ len))
+    (λ k low. let below : k < n = omega (arith, low, lefts-length n now b) in
+    lefts_at n now b k below ∙ elim (cases_eq k lane) [
+      | inl same ↦ ap (λ m. left_or now m b) same ∙ takes.left ∙ sym (ap (λ m. get_or (set (lefts_or n spent a) lane p.left) m None) same ∙ get_or-set_same (lefts_or n spent a) lane p.left None (omega (arith, len, lt)))
+      | inr apart ↦ takes.others k (omega (arith, below, few)) apart ∙ sym (get_or-set_other (lefts_or n spent a) lane k p.left None apart ∙ lefts_at n spent a k below)
+    ])
+
+-- one turn that the engine takes
+pub on_next : (i : Inputs) (all rest : List Turn) (turn : Turn) (start : Stage) (n : ℕ) (spent now : List Bool) (a b : Engine) (lanes : List (List Event)) (before events : List Event)
+    → n ≤ 16 → turn.lane < n → length lanes ≡ n → IsOn i all (turn ∷ rest) start (stage_of spent a n lanes) → before ≡ get_or lanes turn.lane []
+    → Takes turn.lane (pay_turn i turn.lane (state_of a) turn.line (left_or spent turn.lane a)) spent now a b before events
+    → IsOn i all rest start (stage_of now b n (set lanes turn.lane events))
+on_next i all rest turn start n spent now a b lanes before events few lt len on was takes =
+    let at : left_or spent turn.lane a ≡ get_or (lefts_or n spent a) turn.lane None = sym (lefts_at n spent a turn.lane lt) in
+    let told : Takes turn.lane (pay_turn i turn.lane (state_of a) turn.line (get_or (lefts_or n spent a) turn.lane None)) spent now a b before events = subst (λ (left : Option ℕ). Takes turn.lane (pay_turn i turn.lane (state_of a) turn.line left) spent now a b before events) at takes in
+    let p : Paid = pay_turn i turn.lane (state_of a) turn.line (get_or (lefts_or n spent a) turn.lane None) in
+    leads_on i all rest turn start (stage_of spent a n lanes) (stage_of now b n (set lanes turn.lane events)) before events on (omega (arith, lt, len)) (record {
+      state = told.goes.state;
+      lefts = lefts_next n turn.lane p spent now a b before events few lt told;
+      rows = told.goes.rows;
+      orders = told.goes.orders;
+      lanes = refl;
+      was = was;
+      noted = told.goes.noted;
+    })
+
+-- ---- the numbers of requests
+
 abbrev pub numbers : List Asked → List ℕ
 numbers requests = map (λ a. a.req) requests
 
@@ -74,43 +110,6 @@ numbers-tries req tries (a ∷ requests) =
       | inl on ↦ rw on (ap (λ ns. a.req ∷ ns) (numbers-tries req tries requests))
       | inr off ↦ rw off (ap (λ ns. a.req ∷ ns) (numbers-tries req tries requests))
     ]
-
-numbers-tried : (lane : ℕ) (s : State) (a : Asked) (end : TryEnd) → numbers (tried lane s a end).state.requests ≡ numbers s.requests
-numbers-tried lane s a (Sent slot version) = numbers-tries a.req _ s.requests
-numbers-tried lane s a Listed = numbers-tries a.req _ s.requests
-numbers-tried lane s a Failed = numbers-tries a.req _ s.requests
-
-pub numbers-submitted : (near : Near) (lane : ℕ) (s : State) (req : ℕ) → numbers (submitted near lane s req).state.requests ≡ numbers s.requests
-numbers-submitted near lane s req = numbers-tried lane s (request_of s req) (end_of s (choice_by s.order.policy near s (request_of s req).node))
-
-pub numbers-each : (lane : ℕ) (s : State) (fs : List Flight) → numbers (each (finished [] lane) s fs).state.requests ≡ numbers s.requests
-numbers-each lane s [] = refl
-numbers-each lane s (f ∷ fs) = numbers-each lane (finished [] lane s f).state fs ∙ numbers-tries f.req _ s.requests
-
-numbers-finishes : (lane number : ℕ) (s : State) (fs : List Flight) (step : Stepped) → step ≡ finishes_line lane number fs s → numbers step.state.requests ≡ numbers s.requests ++ []
-numbers-finishes lane number s fs step is = ap (λ (x : Stepped). numbers x.state.requests) is ∙ numbers-each lane s fs ∙ sym (append-nil (numbers s.requests))
-
--- a turn adds the number that it submits
-numbers-line : (i : Inputs) (lane : ℕ) (s : State) (n : Numbered1) (l : Line) → i.answers ≡ [] → n.line ≡ l → IsSimple l → numbers (turn_step i lane s (Some n)).state.requests ≡ numbers s.requests ++ submit_of l
-numbers-line i lane s n (line.Submit req node) none is simple =
-    let a : Asked = record { req = req; node = node; tries = [] } in
-    let s1 : State = record s { requests = s.requests ++ a ∷ [] } in
-    ap (λ (l : Line). numbers (turn_step i lane s (Some (record { number = n.number; line = l }))).state.requests) is
-    ∙ numbers-submitted i.topology.near lane s1 req ∙ map-append (λ (b : Asked). b.req) s.requests (a ∷ [])
-numbers-line i lane s n (line.Finish req) none is simple = numbers-finishes lane n.number s (flights_with req (flights_of lane s)) (turn_step i lane s (Some n)) (finish_step i lane s n req none is)
-numbers-line i lane s n line.FinishAll none is simple = numbers-finishes lane n.number s (flights_of lane s) (turn_step i lane s (Some n)) (finish_all_step i lane s n none is)
-numbers-line i lane s n line.Requeue none is simple = absurd simple
-numbers-line i lane s n (line.Log ctrl box) none is simple = absurd simple
-numbers-line i lane s n (line.Ctrl ctrl cstate) none is simple = absurd simple
-numbers-line i lane s n (line.Anatt ctrl) none is simple = absurd simple
-numbers-line i lane s n (line.Add ctrl box) none is simple = absurd simple
-numbers-line i lane s n (line.Remove ctrl) none is simple = absurd simple
-numbers-line i lane s n line.Reap none is simple = absurd simple
-numbers-line i lane s n (line.Policy policy) none is simple = absurd simple
-
-pub numbers-turn : (i : Inputs) (lane : ℕ) (s : State) (turn : Option Numbered1) → i.answers ≡ [] → IsSimpleTurn turn → numbers (turn_step i lane s turn).state.requests ≡ numbers s.requests ++ submit_in turn
-numbers-turn i lane s None none simple = numbers-finishes lane 0 s (flights_of lane s) (turn_step i lane s None) (end_step i lane s none)
-numbers-turn i lane s (Some n) none simple = numbers-line i lane s n n.line none refl simple
 
 -- what is in the second part isn't in the first
 pub distinct_apart : (xs ys : List ℕ) (n : ℕ) → IsDistinct (xs ++ ys) → has ys n ≡ true → has xs n ≡ false

@@ -20,7 +20,7 @@ use Rattle.mp_legal.specs.Units.{Paid, pay_turn, Paying, pay_turns, pay_drain, r
 use Rattle.mp_run.proofs.Paid.{Pays, pays_turn, pays_drain}
 
 -- each turn is of one of so many lanes
-abbrev AreOfLanes : ℕ → List Turn → Type 0
+abbrev pub AreOfLanes : ℕ → List Turn → Type 0
 AreOfLanes lanes [] = Unit {0}
 AreOfLanes lanes (t ∷ turns) = (t.lane < lanes) × AreOfLanes lanes turns
 
@@ -44,7 +44,7 @@ round_of_lanes n round k [] le = tt
 round_of_lanes n round k (p ∷ plans) le =
     of-append n (turn_in round (k, p)) (flat_map (turn_in round) (enumerate_from (k + 1) plans)) (turn_of n round k p (omega arith)) (round_of_lanes n round (k + 1) plans (omega arith))
 
-rounds_of_lanes : (n : ℕ) (plans : List LanePlan) (rounds : List ℕ) → length plans ≤ n → AreOfLanes n (flat_map (round_of plans) rounds)
+pub rounds_of_lanes : (n : ℕ) (plans : List LanePlan) (rounds : List ℕ) → length plans ≤ n → AreOfLanes n (flat_map (round_of plans) rounds)
 rounds_of_lanes n plans [] le = tt
 rounds_of_lanes n plans (r ∷ rounds) le = of-append n (round_of plans r) (flat_map (round_of plans) rounds) (round_of_lanes n r 0 plans (omega arith)) (rounds_of_lanes n plans rounds le)
 
@@ -97,7 +97,7 @@ turn_paid i s lefts t turns None lt all is =
     let last = spent_stays i p.step.state (set lefts t.lane p.left) turns t.lane (omega (arith, length-set lefts t.lane p.left)) here in
     absurd (none_missing (pay_turns i s lefts (t ∷ turns)).lefts t.lane (omega (arith, lefts-length i s lefts (t ∷ turns))) last all)
 
-turns_paid : (i : Inputs) (s : State) (lefts : List (Option ℕ)) (turns : List Turn) → AreOfLanes (length lefts) turns → position is_none (pay_turns i s lefts turns).lefts ≡ None
+pub turns_paid : (i : Inputs) (s : State) (lefts : List (Option ℕ)) (turns : List Turn) → AreOfLanes (length lefts) turns → position is_none (pay_turns i s lefts turns).lefts ≡ None
     → (pay_turns i s lefts turns).taken ≡ taken i s turns
 turns_paid i s lefts [] of all = refl
 turns_paid i s lefts (t ∷ turns) of all =

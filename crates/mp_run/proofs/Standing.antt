@@ -1,15 +1,11 @@
 -- How requests stand.
-use Rattle.std.proofs.Common.{◌≡◌, ℕ, true, false, ◌==◌, List, [], ◌∷◌, inl, inr, None, refl, ap, ◌∙◌, arith}
-use Rattle.std.specs.List.{last_or}
+use Rattle.std.proofs.Common.{◌≡◌, ℕ, true, false, ◌==◌, List, [], ◌∷◌, inl, inr, refl, arith}
 use Rattle.std.proofs.lemmas.Bool.{cases_Bool}
 use Rattle.std.proofs.lemmas.Bool.Decides.{nat_tests}
-use Rattle.mp_words.specs.declared.flight.Flight.{Flight}
 use Rattle.mp_words.specs.declared.trying.Outcome.TheVariants.{Sent}
-use Rattle.mp_words.specs.Request.{Asked, Tried, outcome_of}
+use Rattle.mp_words.specs.Request.{Asked, Tried}
 use Rattle.mp_legal.specs.PlainState.{with_tries}
-use Rattle.mp_legal.specs.Numbers.{has_req, has_flight, asked_at, standing}
-use Rattle.mp_run.specs.Engine.{AreSent}
-use Rattle.mp_run.proofs.ByNumber.{or_false}
+use Rattle.mp_legal.specs.Numbers.{has_req, asked_at, standing}
 
 -- a request that was sent is there
 pub sent_there : (req : ℕ) (requests : List Asked) → standing req requests ≡ Sent → has_req req requests ≡ true
@@ -47,10 +43,3 @@ this_asked req tries (a ∷ requests) there =
       | inl same_one ↦ rw (same_one, same_one) refl
       | inr other_one ↦ rw (other_one, other_one) (this_asked req tries requests (rw other_one at there))
     ]
-
--- the others are sent still
-pub sent_rest : (requests : List Asked) (req : ℕ) (tries : List Tried) (flights : List Flight) → AreSent requests flights → has_flight req flights ≡ false → AreSent (with_tries req tries requests) flights
-sent_rest requests req tries [] sent none = tt
-sent_rest requests req tries (f ∷ flights) sent none =
-    let parts = or_false (f.req == req) (has_flight req flights) none in
-    (ap (λ (a : Asked). outcome_of (last_or None a.tries)) (other_asked f.req req tries requests parts.0) ∙ sent.0, sent.1, sent_rest requests req tries flights sent.2 parts.1)

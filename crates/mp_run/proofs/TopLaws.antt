@@ -13,7 +13,10 @@ use Rattle.mp_run.specs.declared.status.Status.{Status}
 use Rattle.mp_run.specs.declared.status.Status.TheVariants as end
 use Rattle.mp_run.specs.Accepted.{IsUnlessFree}
 use Rattle.mp_run.specs.Forms.{Names, Form, serial, pages, help, version}
-use Rattle.mp_run.specs.Outcome.{◌>>=◌, read_found, read_of, topology_or, fits_in, boxes_or, script_or, serial_text, serial_for, serial_in, pages_for, pages_in, for_form, Answers}
+use Rattle.mp_record.specs.RunView.{RunView}
+use Rattle.mp_script.specs.declared.script.World.{World}
+use Rattle.mp_legal.specs.Units.{serial_over}
+use Rattle.mp_run.specs.Outcome.{◌>>=◌, read_found, read_of, topology_or, fits_in, boxes_or, script_or, text_or, serial_text, serial_for, serial_in, pages_for, pages_in, for_form, Answers}
 use Rattle.mp_run.specs.TooLong.{IsLong, IsLongOf, IsTooLong}
 
 -- ---- a refusal, and what comes before it
@@ -45,14 +48,18 @@ short_bind (Err e) f first next i h = first i (ap Err cc)
 ok_short : {A : Type 0} (x : A) → NeverLong (Ok x)
 ok_short x i h = cc
 
+text_short : (world : World) (r : Result RunView ℕ) → NeverLong (text_or world r)
+text_short world (Ok run) i h = cc
+text_short world (Err lane) i h = cc
+
 serial_short : (t p s : List ℕ) → NeverLong (serial_for t p s)
-unfolding serial_for
+unfolding serial_for serial_text
 serial_short t p s =
     short_bind (topology_or (topology_in t)) _ (topology_short (topology_in t)) (λ topology.
     short_bind (boxes_or (boxes_in p)) _ (boxes_short (boxes_in p)) (λ boxes.
     short_bind (topology_or (fits_in topology (length boxes))) _ (topology_short (fits_in topology (length boxes))) (λ u.
     short_bind (script_or (script_in topology (length boxes) s)) _ (script_short (script_in topology (length boxes) s)) (λ script.
-    ok_short (serial_text (record { topology = topology; pages = boxes }) script)))))
+    text_short (record { topology = topology; pages = boxes }) (serial_over 2097152 (record { topology = topology; pages = boxes }) script)))))
 
 pages_short : (p : List ℕ) (max : ℕ) → NeverLong (pages_for p max)
 unfolding pages_for
@@ -143,6 +150,7 @@ unless_free read wanted old new (end.Topology e) is told = cc
 unless_free read wanted old new (end.Script e) is told = cc
 unless_free read wanted old new (end.Boxes e) is told = cc
 unless_free read wanted old new (end.TooLong i) is told = cc
+unless_free read wanted old new (end.Spent lane) is told = cc
 
 pub long_told : (files : Files) (form : Option Form) (old new : Option (List ℕ)) (status : Status) (i : ℕ) → Answers (for_form files form) old new status → IsTooLong files form i → IsUnlessFree (end.TooLong i) status
 long_told files form old new status i told long = unless_free (for_form files form) (end.TooLong i) old new status (outcome_is_long files form i long) told

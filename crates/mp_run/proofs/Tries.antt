@@ -1,9 +1,7 @@
 -- A try keeps the state sound.
 use Rattle.mp_legal.specs.TryRead.{TryRead}
-use Rattle.mp_words.specs.declared.trying.Outcome.{Outcome}
-use Rattle.std.proofs.Common.{◌≡◌, ℕ, ◌<◌, true, false, ◌==◌, List, [], ◌∷◌, ◌++◌, inl, inr, map, get_or, set, Option, Some, None, refl, sym, ap, ◌∙◌, append_assoc, length}
+use Rattle.std.proofs.Common.{◌≡◌, ℕ, ◌<◌, true, false, ◌==◌, List, [], ◌∷◌, ◌++◌, inl, inr, map, get_or, set, Option, Some, None, refl, sym, ap, ◌∙◌, append_assoc}
 use Rattle.std.proofs.lemmas.Bool.{cases_Bool, eqb-true}
-use Rattle.std.proofs.lemmas.List.{get_or-set_same}
 use Rattle.mp_checks.specs.Marks.{has}
 use Rattle.mp_words.specs.declared.near.Near.{Near}
 use Rattle.mp_words.specs.declared.flight.Flight.{Flight}
@@ -17,9 +15,9 @@ use Rattle.mp_legal.specs.PlainLine.{flights_of}
 use Rattle.mp_legal.specs.Numbers.{has_req, has_flight, asked_at, standing}
 use Rattle.mp_script.specs.Distinct.{IsDistinct}
 use Rattle.mp_run.specs.Sound.{IsSound, AreOf}
-use Rattle.mp_run.proofs.Chosen.{request_is, asked_req}
+use Rattle.mp_run.proofs.Chosen.{asked_req}
 use Rattle.mp_run.proofs.Distinct.{distinct_middle}
-use Rattle.mp_run.proofs.Changes.{after_more, before_more, differs, distinct_without, each_lane, flight-last, has_between, has_middle, has_neither, has_with_tries, not_true, of-append, once-append, stands_other, stands_tried}
+use Rattle.mp_run.proofs.Changes.{after_more, differs, distinct_without, each_lane, has_between, has_middle, has_neither, has_with_tries, not_true, of-append, once-append, stands_other, stands_tried}
 
 -- What a try of a request that waits leaves of what holds: the others, and the flights that were there.
 record Kept (s : State) (req : ℕ) (tries : List Tried) (others : List ℕ) : Type 0 where
@@ -28,7 +26,6 @@ record Kept (s : State) (req : ℕ) (tries : List Tried) (others : List ℕ) : T
   lands : (lane : ℕ) → has_flight req (flights_of lane s) ≡ false
   small : (r : ℕ) → has_req r (with_tries req tries s.requests) ≡ true → r < 65536
   sent : (lane r : ℕ) → has_flight r (flights_of lane s) ≡ true → standing r (with_tries req tries s.requests) ≡ outcome.Sent
-  aloft : (r : ℕ) → (r == req) ≡ false → standing r (with_tries req tries s.requests) ≡ outcome.Sent → (lane : ℕ) × (has_flight r (flights_of lane s) ≡ true)
   waits : (r : ℕ) → has (s.waiting ++ others) r ≡ true → (standing r (with_tries req tries s.requests) ≡ outcome.Waiting) × (has_req r (with_tries req tries s.requests) ≡ true)
   queued : IsDistinct (s.waiting ++ others)
 
@@ -44,35 +41,25 @@ kept_by s req tries others sound =
       lands = lands;
       small = λ r e. sound.small r (sym (has_with_tries r req tries s.requests) ∙ e);
       sent = λ lane r e. stands_other r req tries s.requests (not_true (r == req) (λ same. let is : r ≡ req = eqb-true r req same in let none : has_flight r (flights_of lane s) ≡ false = ap (λ n. has_flight n (flights_of lane s)) is ∙ lands lane in cc)) ∙ sound.sent lane r e;
-      aloft = λ r other e. sound.aloft r (sym (stands_other r req tries s.requests other) ∙ e);
       waits = λ r e. let w = sound.waits r (has_between s.waiting others req r e) in
           (stands_other r req tries s.requests (differs (s.waiting ++ others) r req e (has_neither s.waiting others req apart.0 apart.1)) ∙ w.0, has_with_tries r req tries s.requests ∙ w.1);
       queued = distinct_without s.waiting others req sound.queued;
     }
+
+-- the next of the others is there, waits, and doesn't fly
+pub next_waits : (s : State) (req : ℕ) (others : List ℕ) (lane : ℕ) → IsSound s (req ∷ others) → (standing req s.requests ≡ outcome.Waiting) × (has_req req s.requests ≡ true) × (has_flight req (flights_of lane s) ≡ false)
+next_waits s req others lane sound = let k = kept_by s req [] others sound in (k.waited, k.there, k.lands lane)
 
 -- where a try sends a request
 stands_now : (req : ℕ) (before : List Tried) (t : Tried) (requests : List Asked) → before ≡ (asked_at req requests).tries → has_req req requests ≡ true
     → standing req (with_tries req (before ++ t ∷ []) requests) ≡ outcome_of (Some t)
 stands_now req before t requests was there = ap (λ (ts : List Tried). standing req (with_tries req (ts ++ t ∷ []) requests)) was ∙ stands_tried req t requests there
 
--- a request whose last try isn't open doesn't fly
-aloft_by : (s : State) (req : ℕ) (before : List Tried) (t : Tried) (others : List ℕ) → before ≡ (asked_at req s.requests).tries → (outcome_of (Some t) ≡ outcome.Sent → ⊥) → Kept s req (before ++ t ∷ []) others
-    → (r : ℕ) → standing r (with_tries req (before ++ t ∷ []) s.requests) ≡ outcome.Sent → (lane : ℕ) × (has_flight r (flights_of lane s) ≡ true)
-aloft_by s req before t others was unsent k r e =
-    elim (cases_Bool (r == req)) [
-      | inl same ↦ let here : r ≡ req = eqb-true r req same in
-          absurd (unsent (sym (stands_now req before t s.requests was k.there) ∙ ap (λ n. standing n (with_tries req (before ++ t ∷ []) s.requests)) (sym here) ∙ e))
-      | inr other ↦ k.aloft r other e
-    ]
-
 sound_failed : (s : State) (req : ℕ) (others : List ℕ) (before : List Tried) (t : Tried) (notes : List (ℕ × TryRead)) → before ≡ (asked_at req s.requests).tries → outcome_of (Some t) ≡ outcome.Failed → IsSound s (req ∷ others)
     → IsSound (record s { requests = with_tries req (before ++ t ∷ []) s.requests; reads = notes }) others
 sound_failed s req others before t notes was is sound =
     let k = kept_by s req (before ++ t ∷ []) others sound in
-    record { small = k.small; sent = k.sent; aloft = aloft_by s req before t others was (λ e. failed is e) k; home = sound.home; once = sound.once; alone = sound.alone; waits = k.waits; queued = k.queued }
-  where
-    failed : {o : Outcome} → o ≡ outcome.Failed → o ≡ outcome.Sent → ⊥
-    failed p q = absurd cc
+    record { small = k.small; sent = k.sent; home = sound.home; once = sound.once; alone = sound.alone; waits = k.waits; queued = k.queued }
 
 sound_listed : (s : State) (req : ℕ) (others : List ℕ) (before : List Tried) (t : Tried) (notes : List (ℕ × TryRead)) → before ≡ (asked_at req s.requests).tries → outcome_of (Some t) ≡ outcome.Waiting → IsSound s (req ∷ others)
     → IsSound (record s { waiting = s.waiting ++ req ∷ []; requests = with_tries req (before ++ t ∷ []) s.requests; reads = notes }) others
@@ -83,7 +70,6 @@ sound_listed s req others before t notes was is sound =
     record {
       small = k.small;
       sent = k.sent;
-      aloft = aloft_by s req before t others was (λ e. waiting is e) k;
       home = sound.home;
       once = sound.once;
       alone = sound.alone;
@@ -96,13 +82,10 @@ sound_listed s req others before t notes was is sound =
       );
       queued = rw all sound.queued;
     }
-  where
-    waiting : {o : Outcome} → o ≡ outcome.Waiting → o ≡ outcome.Sent → ⊥
-    waiting p q = absurd cc
 
-sound_sent : (s : State) (at req : ℕ) (others : List ℕ) (before : List Tried) (t : Tried) (f : Flight) (lasts : List (Option ℕ)) (notes : List (ℕ × TryRead)) → before ≡ (asked_at req s.requests).tries → outcome_of (Some t) ≡ outcome.Sent → f.req ≡ req → f.lane ≡ at → at < length s.flights → IsSound s (req ∷ others)
+sound_sent : (s : State) (at req : ℕ) (others : List ℕ) (before : List Tried) (t : Tried) (f : Flight) (lasts : List (Option ℕ)) (notes : List (ℕ × TryRead)) → before ≡ (asked_at req s.requests).tries → outcome_of (Some t) ≡ outcome.Sent → f.req ≡ req → f.lane ≡ at → IsSound s (req ∷ others)
     → IsSound (record s { flights = set s.flights at (get_or s.flights at [] ++ f ∷ []); lasts = lasts; requests = with_tries req (before ++ t ∷ []) s.requests; reads = notes }) others
-sound_sent s at req others before t f lasts notes was is number lane_is lt sound =
+sound_sent s at req others before t f lasts notes was is number lane_is sound =
     let tries : List Tried = before ++ t ∷ [] in
     let k = kept_by s req tries others sound in
     record {
@@ -110,14 +93,6 @@ sound_sent s at req others before t f lasts notes was is number lane_is lt sound
       sent = λ lane r e. elim (after_more s at lane r f e) [
         | inl old ↦ k.sent lane r old
         | inr new ↦ let here : r ≡ req = sym new.1 ∙ number in rw here (stands_now req before t s.requests was k.there ∙ is)
-      ];
-      aloft = λ r e. elim (cases_Bool (r == req)) [
-        | inl same ↦ let here : r ≡ f.req = eqb-true r req same ∙ sym number in (
-          at,
-          ap (λ n. has_flight n (get_or (set s.flights at (get_or s.flights at [] ++ f ∷ [])) at [])) here
-              ∙ ap (has_flight f.req) (get_or-set_same s.flights at (get_or s.flights at [] ++ f ∷ []) [] lt) ∙ flight-last (get_or s.flights at []) f,
-        )
-        | inr other ↦ let was_there = k.aloft r other e in (was_there.0, before_more s at was_there.0 r f was_there.1)
       ];
       home = each_lane AreOf s.flights at (get_or s.flights at [] ++ f ∷ []) sound.home (of-append at (get_or s.flights at []) f (sound.home at) lane_is);
       once = each_lane (λ lane fs. IsDistinct (map (λ g. g.req) fs)) s.flights at (get_or s.flights at [] ++ f ∷ []) sound.once
@@ -137,18 +112,18 @@ sound_sent s at req others before t f lasts notes was is number lane_is lt sound
     }
 
 -- a try of a request that waits
-tried_sound : (lane : ℕ) (s : State) (others : List ℕ) (end : TryEnd) (a : Asked) (req : ℕ) → lane < length s.flights → a.req ≡ req → a ≡ asked_at req s.requests → IsSound s (req ∷ others) → IsSound (tried lane s a end).state others
-tried_sound lane s others Failed a req lt number is sound =
+tried_sound : (lane : ℕ) (s : State) (others : List ℕ) (end : TryEnd) (a : Asked) (req : ℕ) → a.req ≡ req → a ≡ asked_at req s.requests → IsSound s (req ∷ others) → IsSound (tried lane s a end).state others
+tried_sound lane s others Failed a req number is sound =
     let was : a.tries ≡ (asked_at a.req s.requests).tries = ap (λ (b : Asked). b.tries) (is ∙ ap (λ n. asked_at n s.requests) (sym number)) in
     sound_failed s a.req others a.tries (record { end = Failed; statuses = []; back = None }) _ was refl (rw number sound)
-tried_sound lane s others Listed a req lt number is sound =
+tried_sound lane s others Listed a req number is sound =
     let was : a.tries ≡ (asked_at a.req s.requests).tries = ap (λ (b : Asked). b.tries) (is ∙ ap (λ n. asked_at n s.requests) (sym number)) in
     sound_listed s a.req others a.tries (record { end = Listed; statuses = []; back = None }) _ was refl (rw number sound)
-tried_sound lane s others (Sent slot version) a req lt number is sound =
+tried_sound lane s others (Sent slot version) a req number is sound =
     let was : a.tries ≡ (asked_at a.req s.requests).tries = ap (λ (b : Asked). b.tries) (is ∙ ap (λ n. asked_at n s.requests) (sym number)) in
-    sound_sent s lane a.req others a.tries (record { end = Sent slot version; statuses = []; back = None }) (record { slot = slot; version = version; req = a.req; lane = lane }) _ _ was refl refl refl lt (rw number sound)
+    sound_sent s lane a.req others a.tries (record { end = Sent slot version; statuses = []; back = None }) (record { slot = slot; version = version; req = a.req; lane = lane }) _ _ was refl refl refl (rw number sound)
 
-pub sound_submit : (near : Near) (lane req : ℕ) (s : State) (others : List ℕ) → lane < length s.flights → IsSound s (req ∷ others) → IsSound (submitted near lane s req).state others
-sound_submit near lane req s others lt sound =
+pub sound_submit : (near : Near) (lane req : ℕ) (s : State) (others : List ℕ) → IsSound s (req ∷ others) → IsSound (submitted near lane s req).state others
+sound_submit near lane req s others sound =
     let a : Asked = asked_at req s.requests in
-    rw (request_is s req) (tried_sound lane s others (end_of s (choice_by s.order.policy near s a.node)) a req lt (asked_req req s.requests) refl sound)
+    tried_sound lane s others (end_of s (choice_by s.order.policy near s a.node)) a req (asked_req req s.requests) refl sound

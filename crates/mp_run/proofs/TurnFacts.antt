@@ -12,8 +12,8 @@ use Rattle.mp_script.specs.declared.script.Numbered1.{Numbered1}
 use Rattle.mp_legal.specs.Turns.{Turn, turn_in, line_turn, round_of, longest, turns_of}
 use Rattle.mp_script.specs.Distinct.{IsDistinct}
 use Rattle.mp_run.specs.LaneTurns.{submit_in, turns_submits}
-use Rattle.mp_script.specs.Facts.{AreSimple, submit_of, submits_of}
-use Rattle.mp_script.specs.Facts.{submits_in}
+use Rattle.mp_script.specs.declared.script.Script.{Script}
+use Rattle.mp_script.specs.Facts.{AreSimple, IsBuilt, submit_of, submits_of, submits_in}
 use Rattle.mp_run.specs.OnTurns.{AreSimpleTurns}
 use Rattle.mp_run.proofs.ByNumber.{or_false}
 use Rattle.mp_run.proofs.Changes.{not_true}
@@ -67,8 +67,11 @@ rounds_simple n plans [] le simple = tt
 rounds_simple n plans (r ∷ rounds) le simple =
     simple-append n (round_of plans r) (flat_map (round_of plans) rounds) (round_simple n r 0 plans (omega arith) simple) (rounds_simple n plans rounds le simple)
 
-pub simple_turns : (plans : List LanePlan) → AllByRecursion (λ plan. AreSimple plan.lines) plans → AreSimpleTurns (length plans) (turns_of plans)
+simple_turns : (plans : List LanePlan) → AllByRecursion (λ plan. AreSimple plan.lines) plans → AreSimpleTurns (length plans) (turns_of plans)
 simple_turns plans simple = rounds_simple (length plans) plans (range_with_len 0 (longest plans + 1)) (omega arith) simple
+
+pub turns_simple : (script : Script) → IsBuilt script → AreSimpleTurns (length script.lanes) (turns_of script.lanes)
+turns_simple script built = simple_turns script.lanes built.simple
 
 -- ---- all turns submit what the lanes submit
 
@@ -77,7 +80,7 @@ abbrev pub count : ℕ → List ℕ → ℕ
 count n [] = 0
 count n (x ∷ xs) = cond (x == n) (suc (count n xs)) (count n xs)
 
-count-append : (n : ℕ) (xs ys : List ℕ) → count n (xs ++ ys) ≡ count n xs + count n ys
+pub count-append : (n : ℕ) (xs ys : List ℕ) → count n (xs ++ ys) ≡ count n xs + count n ys
 count-append n [] ys = omega arith
 count-append n (x ∷ xs) ys =
     let more = count-append n xs ys in
@@ -92,7 +95,7 @@ pub none_count : (n : ℕ) (xs : List ℕ) → has xs n ≡ false → count n xs
 none_count n [] e = refl
 none_count n (x ∷ xs) e = let parts = or_false (x == n) (has xs n) e in rw parts.0 (none_count n xs parts.1)
 
-distinct_count : (n : ℕ) (xs : List ℕ) → IsDistinct xs → count n xs ≤ 1
+pub distinct_count : (n : ℕ) (xs : List ℕ) → IsDistinct xs → count n xs ≤ 1
 distinct_count n [] d = omega arith
 distinct_count n (x ∷ xs) d =
     elim (cases_Bool (x == n)) [
@@ -100,7 +103,7 @@ distinct_count n (x ∷ xs) d =
       | inr off ↦ rw off (distinct_count n xs d.1)
     ]
 
-count_distinct : (xs : List ℕ) → ((n : ℕ) → count n xs ≤ 1) → IsDistinct xs
+pub count_distinct : (xs : List ℕ) → ((n : ℕ) → count n xs ≤ 1) → IsDistinct xs
 count_distinct [] all = tt
 count_distinct (x ∷ xs) all =
     (not_true (has xs x) (λ e. let one : count x (x ∷ xs) ≡ suc (count x xs) = rw (eq-eqb x x refl) refl in absurd (omega (arith, all x, has_count x xs e))), count_distinct xs (λ n. fewer n (all n)))

@@ -6,6 +6,8 @@ use Rattle.mp_topology.specs.Topology.{topology_in}
 use Rattle.mp_page.specs.Boxes.{boxes_in}
 use Rattle.mp_script.specs.declared.script.Script.{Script}
 use Rattle.mp_script.specs.Script.{script_in}
+use Rattle.mp_record.specs.RunView.{RunView}
+use Rattle.mp_legal.specs.Units.{serial_over}
 use Rattle.mp_run.specs.declared.status.Status.{Status}
 use Rattle.mp_run.specs.declared.status.Status.TheVariants as end
 use Rattle.mp_run.specs.Forms.{Names, Form, serial, pages, help, version}
@@ -17,7 +19,7 @@ pub record Holds (files : Files) (name : List ℕ) : Type 0 where
   pub there : file_at files name ≡ Some bytes
   pub within : length bytes ≤ 16777216
 
--- The three files are there, and what they say is accepted.
+-- The three files are there, what they say is accepted, and no lane of the run is spent.
 pub record AcceptsRun (files : Files) (names : Names) : Type 0 where
   pub topology_file : Holds files names.topology
   pub boxes_file : Holds files names.boxes
@@ -29,6 +31,8 @@ pub record AcceptsRun (files : Files) (names : Names) : Type 0 where
   pub boxes_read : boxes_in boxes_file.bytes ≡ Ok boxes
   pub fit : fits_in topology (length boxes) ≡ Ok tt
   pub script_read : script_in topology (length boxes) script_file.bytes ≡ Ok script
+  pub run : RunView
+  pub paid : serial_over 2097152 (record { topology = topology; pages = boxes }) script ≡ Ok run
 
 -- The file of boxes is there, and accepted.
 pub record AcceptsPages (files : Files) (name : List ℕ) : Type 0 where

@@ -1,51 +1,83 @@
 -- The engine against the plain run.
-use Rattle.std.specs.Prelude.{◌≡◌, ◌≤◌, ℕ, false, List, [], ◌∷◌, ◌++◌, length, replicate, None}
-use Rattle.mp_words.specs.declared.row.Policy.TheVariants.{Numa}
-use Rattle.mp_words.specs.declared.flight.Flight.{Flight}
-use Rattle.mp_words.specs.declared.trying.Outcome.TheVariants.{Sent}
-use Rattle.mp_words.specs.Request.{Asked}
+use Rattle.std.specs.Prelude.{◌≡◌, ◌<◌, ℕ, List, [], ◌∷◌, ◌++◌, length, Result, Ok, Err, Option, Some, None}
 use Rattle.mp_record.specs.declared.event.Event.{Event}
+use Rattle.mp_core.specs.Core.{Core}
+use Rattle.mp_core.specs.Seats.{turned}
+use Rattle.mp_core.specs.Unpacked.{unpacked}
+use Rattle.mp_plain.specs.Lanes.{begun}
+use Rattle.mp_plain.specs.Told.{told_core}
 use Rattle.mp_run.specs.declared.engine.Engine.{Engine}
+use Rattle.mp_run.specs.declared.halt.Halt.{Halt}
+use Rattle.mp_run.specs.declared.halt.Halt.TheVariants as halt
 use Rattle.mp_legal.specs.PlainState.{State}
-use Rattle.mp_record.specs.declared.event.Said.TheVariants as said
-use Rattle.mp_legal.specs.PlainFinish.{finished}
-use Rattle.mp_legal.specs.Stepped.{Stepped, and_then, says, each}
-use Rattle.mp_legal.specs.Numbers.{standing, has_flight}
+use Rattle.mp_legal.specs.Stepped.{Stepped}
+use Rattle.mp_legal.specs.ToldState.{Beside, IsAt, state_in}
+use Rattle.mp_legal.specs.Units.{Paid, pay_line}
+use Rattle.mp_legal.specs.Inputs.{inputs_for}
+use Rattle.mp_legal.specs.PlainLine.{Start}
+use Rattle.mp_script.specs.declared.script.Script.{Script}
+use Rattle.mp_script.specs.declared.script.World.{World}
+use Rattle.mp_run.specs.Keeping.{KeepsOrder}
 
--- The state that the engine stands for. No last choice is kept, and no removal is under way.
-abbrev pub state_of : Engine → State
-state_of e = record {
-  rows = e.rows.items;
-  order = e.order;
-  lasts = replicate 8 None;
+-- what a lane knows at its turn
+abbrev pub core_for : ℕ → Engine → Core
+core_for lane e = turned (begun (told_core e.plain).view.keeping.start) lane (told_core e.plain) (unpacked e.plain.words)
+
+-- what the engine has beside the words; no removal is under way
+abbrev pub beside_of : Engine → Beside
+beside_of e = record {
   flights = e.flights.items;
-  waiting = e.waiting.items;
+  waiting = e.waiting;
   removals = [];
   flips = 0;
   requests = e.requests.asked;
   reads = e.requests.noted;
 }
 
--- A state with a row for each slot, at most eight of them listed, and flights for each lane, under NUMA.
-pub record IsReady (s : State) : Type 0 where
-  pub rows : length s.rows ≡ 15
-  pub listed : s.order.len ≤ 8
-  pub lanes : length s.flights ≡ 17
-  pub numa : s.order.policy ≡ Numa
+-- the plain state that the engine stands for
+abbrev pub state_of : Engine → State
+state_of e = state_in (unpacked e.plain.words) (beside_of e)
 
--- A step makes no entry and leads to this state, and what it says was noted.
-pub record Does (step : Stepped) (after : State) (old new : List Event) : Type 0 where
-  pub state : after ≡ step.state
-  pub rows : step.rows ≡ []
-  pub orders : step.orders ≡ []
+-- how many units a lane has left
+abbrev pub left_of : ℕ → Engine → ℕ
+left_of lane e = (core_for lane e).view.left
+
+-- Between two calls each lane stands on the engine's words and flights, and what the keeper's sequence says of the list
+-- of paths is so.
+pub record IsTied (e : Engine) : Type 0 where
+  pub lanes : (lane : ℕ) → lane < 17 → IsAt (core_for lane e) (unpacked e.plain.words) (beside_of e)
+  pub seats : length (told_core e.plain).others ≡ 17
+  pub now : (told_core e.plain).lane < 17
+  pub keeps : KeepsOrder (unpacked e.plain.words) (told_core e.plain).view
+
+-- A step leads to the engine's state, and what it makes and says was added to what was there.
+pub record Goes (step : Stepped) (a b : Engine) (old new : List Event) : Type 0 where
+  pub state : state_of b ≡ step.state
+  pub rows : b.made.rows.items ≡ a.made.rows.items ++ step.rows
+  pub orders : b.made.orders.items ≡ a.made.orders.items ++ step.orders
   pub noted : new ≡ old ++ step.events
 
--- each flight is of another request, which was sent
-abbrev pub AreSent : List Asked → List Flight → Type 0
-AreSent requests [] = Unit {0}
-AreSent requests (f ∷ flights) = (standing f.req requests ≡ Sent) × (has_flight f.req flights ≡ false) × AreSent requests flights
+-- A lane went as far as it was paid for: no other lane's units changed.
+pub record IsPaid (lane : ℕ) (p : Paid) (left : Option ℕ) (a b : Engine) (old new : List Event) : Type 0 where
+  pub goes : Goes p.step a b old new
+  pub paid : p.left ≡ left
+  pub tied : IsTied b
+  pub others : (other : ℕ) → other < 17 → (other ≡ lane → ⊥) → left_of other b ≡ left_of other a
 
--- a line of a lane, or its end, that finishes these flights
-abbrev pub finishes_line : ℕ → ℕ → List Flight → State → Stepped
-finishes_line lane number flights s =
-    and_then (says (record { lane = lane; line = number }) s (said.Finish (length flights))) (λ t. each (finished [] lane) t flights)
+-- What a lane did is what was paid for: all of it, or up to the call for which its units weren't enough. Want of memory is
+-- free.
+abbrev pub Pays : {T : Type 0} → Result T Halt → ℕ → Paid → Engine → Engine → List Event → List Event → Type 0
+Pays (Ok x) lane p a b old new = IsPaid lane p (Some (left_of lane b)) a b old new
+Pays (Err halt.Spent) lane p a b old new = IsPaid lane p None a b old new
+Pays (Err halt.NoMemory) lane p a b old new = Unit {0}
+
+-- A fact of the state after a call, unless memory ran out.
+abbrev pub Leaves : {T : Type 0} → Result T Halt → Type 0 → Type 0
+Leaves (Ok x) fact = fact
+Leaves (Err halt.Spent) fact = fact
+Leaves (Err halt.NoMemory) fact = Unit {0}
+
+-- A lane went on with a line that starts so, as far as its units were enough.
+abbrev pub Runs : {T : Type 0} → Result T Halt → World → Script → ℕ → ℕ → Start → Engine → Engine → List Event → List Event → Type 0
+Runs result world script lane line start a b old new =
+    Pays result lane (pay_line (inputs_for world script) (record { lane = lane; line = line }) (left_of lane a) start) a b old new

@@ -1,7 +1,5 @@
 -- The parts of a run in which no row and no list changes.
-use Rattle.std.specs.Prelude.{ℕ, List, [], ◌∷◌}
-use Rattle.mp_words.specs.Request.{Asked, asked_of}
-use Rattle.mp_words.specs.RequestView.{RequestView}
+use Rattle.std.specs.Prelude.{List, [], ◌∷◌}
 use Rattle.mp_words.specs.declared.entry.RowEntry.{RowEntry}
 use Rattle.mp_words.specs.declared.entry.KeepEntry.{KeepEntry}
 use Rattle.mp_words.specs.declared.entry.KeepEntry.TheVariants as keep
@@ -15,7 +13,3 @@ alone entry = entry ∷ []
 -- the entry of the opening's order
 abbrev pub first_entry : Order → KeepEntry
 first_entry order = keep.Order (record { order = order; by = maker.Start })
-
--- an entry of a request, as a run tells it
-abbrev pub told : ℕ × RequestView → ℕ × Asked
-told e = (e.0, asked_of e.1)

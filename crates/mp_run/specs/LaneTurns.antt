@@ -19,7 +19,7 @@ submit_in (Some l) = submit_of l.line
 abbrev pub turns_submits : List Turn → List ℕ
 turns_submits turns = flat_map (λ t. submit_in t.line) turns
 
--- the turn is an end, or such a line
+-- the turn is an end, or a line that is none of `add`, `remove` and `reap`
 abbrev pub IsSimpleTurn : Option Numbered1 → Type 0
 IsSimpleTurn None = Unit {0}
 IsSimpleTurn (Some l) = IsSimple l.line

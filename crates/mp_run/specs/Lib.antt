@@ -3,7 +3,11 @@ pub mod Notes
 pub mod RequestsView
 pub mod Indexed
 pub mod Flying
+pub mod Keeping
+pub mod Requesting
+pub mod Calls
 pub mod Engine
+pub mod Taking
 pub mod Sound
 pub mod LaneTurns
 pub mod World
@@ -14,6 +18,7 @@ pub mod Gathered
 pub mod LastRound
 pub mod Quiet
 pub mod Told
+pub mod Trails
 pub mod Status
 pub mod Forms
 pub mod FormsView

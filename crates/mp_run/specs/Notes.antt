@@ -1,11 +1,11 @@
 -- What the tries of requests read, as they noted it.
 use Rattle.std.specs.Prelude.{◌≡◌, ℕ, ◌==◌, false, List, [], ◌∷◌, map, filter}
+use Rattle.std.specs.Map.{values_of}
 use Rattle.mp_words.specs.declared.note.Note.{Note}
 use Rattle.mp_legal.specs.TryRead.{TryRead, read_of}
 use Rattle.mp_words.specs.Request.{asked_of}
 use Rattle.mp_words.specs.RequestView.{RequestView}
 use Rattle.mp_legal.specs.Numbers.{has_req}
-use Rattle.mp_run.specs.Indexed.{AreIndexed}
 
 -- what the tries of a request noted, in order
 abbrev pub notes_of : RequestView → List TryRead
@@ -29,7 +29,12 @@ pub record IsNoted (made : List (ℕ × TryRead)) (requests : List RequestView) 
   pub each : AreNoted made requests
   pub others : (req : ℕ) → has_req req (map asked_of requests) ≡ false → notes_for req made ≡ []
 
--- The index has the place of each of these requests, and their tries noted what was noted.
-pub record AreKept (index : List ℕ) (requests : List RequestView) (made : List (ℕ × TryRead)) : Type 0 where
-  pub indexed : AreIndexed index 0 (map asked_of requests)
-  pub noted : IsNoted made requests
+-- each key is its request's number
+abbrev pub AreKeyed : List (ℕ × RequestView) → Type 0
+AreKeyed [] = Unit {0}
+AreKeyed (e ∷ entries) = (e.1.id ≡ e.0) × AreKeyed entries
+
+-- Each key of these entries is its request's number, and the tries of the requests noted what was noted.
+pub record AreKept (entries : List (ℕ × RequestView)) (made : List (ℕ × TryRead)) : Type 0 where
+  pub keyed : AreKeyed entries
+  pub noted : IsNoted made (values_of entries)

@@ -12,7 +12,7 @@ use Rattle.mp_checks.specs.Checks.{first_fault}
 use Rattle.mp_page.specs.declared.boxes.BoxError.{BoxError}
 use Rattle.mp_page.specs.Boxes.{boxes_in}
 use Rattle.mp_page.specs.Text.{pages_text}
-use Rattle.mp_record.specs.RunView.{noted}
+use Rattle.mp_record.specs.RunView.{RunView, noted}
 use Rattle.mp_record.specs.RunText.{run_text}
 use Rattle.mp_script.specs.declared.errors.ScriptError.{ScriptError}
 use Rattle.mp_script.specs.declared.script.Script.{Script}
@@ -22,7 +22,7 @@ use Rattle.mp_run.specs.declared.status.Status.{Status}
 use Rattle.mp_run.specs.declared.status.Status.TheVariants as end
 use Rattle.mp_run.specs.Forms.{Names, Form, serial, pages, help, version, form_of}
 use Rattle.mp_run.specs.Help.{help_text, version_text}
-use Rattle.mp_legal.specs.PlainRun.{run_over}
+use Rattle.mp_legal.specs.Units.{serial_over}
 
 infixl 10 ◌>>=◌
 -- what follows from a result that is no refusal
@@ -58,9 +58,14 @@ abbrev pub script_or : Result Script ScriptError → Result Script Status
 script_or (Ok s) = Ok s
 script_or (Err e) = Err (end.Script e)
 
--- the text of the plain run of a script, without sections and closings
-unfoldable pub serial_text : World → Script → List ℕ
-serial_text world script = run_text world.topology (noted false (run_over world script))
+-- the text of a run of a script without sections and closings, or the status of the lane that is spent
+abbrev pub text_or : World → Result RunView ℕ → Result (List ℕ) Status
+text_or world (Ok run) = Ok (run_text world.topology (noted false run))
+text_or world (Err lane) = Err (end.Spent lane)
+
+-- the text of the run of a script with 2,097,152 units for each lane and for the drain, or the least lane that is spent
+unfoldable pub serial_text : World → Script → Result (List ℕ) Status
+serial_text world script = text_or world (serial_over 2097152 world script)
 
 -- the text of a run for the bytes of the three files, or the first refusal
 unfoldable pub serial_for : List ℕ → List ℕ → List ℕ → Result (List ℕ) Status
@@ -69,7 +74,7 @@ serial_for t p s = do
   boxes ← boxes_or (boxes_in p)
   _ ← topology_or (fits_in topology (length boxes))
   script ← script_or (script_in topology (length boxes) s)
-  Ok (serial_text (record { topology = topology; pages = boxes }) script)
+  serial_text (record { topology = topology; pages = boxes }) script
 
 -- the text of a run of the three files, or the first refusal
 unfoldable pub serial_in : Files → Names → Result (List ℕ) Status
@@ -160,6 +165,7 @@ IsTextStatus end.NoMemory = Unit {0}
 IsTextStatus (end.Topology e) = Unit {0}
 IsTextStatus (end.Boxes e) = Unit {0}
 IsTextStatus (end.Script e) = Unit {0}
+IsTextStatus (end.Spent lane) = Unit {0}
 IsTextStatus _ = ⊥
 
 -- A status that may be answered to words of a form before anything is written.

@@ -1,5 +1,8 @@
 //! A flight, as the engine keeps it.
 
+ghost use Rattle.std.specs.Prelude.{◌≡◌};
+
+use mp_words::flight::Flight;
 use mp_words::numbers::{LaneId, ReqId, Slot};
 use std::marker::Model;
 
@@ -21,4 +24,36 @@ impl Model for Aloft {
     ghost view = { λ f. record { slot = f.slot; version = f.version; req = f.req; lane = f.lane } };
 
     ghost inverse = { λ f. record { slot = f.slot; version = f.version; req = f.req; lane = f.lane } };
+}
+
+impl Aloft {
+    /// The flight, spent: the engine keeps it.
+    pub fn of(flight: Flight) -> Aloft
+        ensures { result ≡ flight }
+    {
+        let Flight {
+            slot,
+            version,
+            req,
+            lane,
+        } = flight;
+        Aloft {
+            slot,
+            version,
+            req,
+            lane,
+        }
+    }
+
+    /// The flight, to be spent.
+    pub fn flight(&self) -> Flight
+        ensures { result ≡ self.now }
+    {
+        Flight {
+            slot: self.slot,
+            version: self.version,
+            req: self.req,
+            lane: self.lane,
+        }
+    }
 }

@@ -1,24 +1,24 @@
 //! What is done once every lane has ended.
 
-ghost use Rattle.std.specs.Prelude.{◌≡◌, ◌||◌, ℕ, List, [], ◌∷◌, IfOk, OnOk};
+ghost use Rattle.std.specs.Prelude.{◌≡◌, ◌∷◌, ℕ, List, [], IfOk, OnOk};
 ghost use Rattle.std.specs.List.{list_any};
-ghost use Rattle.mp_legal.specs.Drain as plain;
-ghost use Rattle.mp_run.specs.Engine.{state_of, IsReady, Does};
-ghost use Rattle.mp_legal.specs.Inputs.{inputs_of};
+ghost use Rattle.mp_legal.specs.Drain.{is_sent};
+ghost use Rattle.mp_legal.specs.Inputs.{inputs_for};
+ghost use Rattle.mp_legal.specs.PlainLine.{flights_of};
+ghost use Rattle.mp_legal.specs.Units.{each_paid, pay_request, pay_round, pay_drain};
+ghost use Rattle.mp_run.specs.Engine.{state_of, left_of, IsTied, Pays};
 ghost use Rattle.mp_run.specs.Sound.{IsSound};
-ghost use Rattle.mp_legal.specs.Stepped.{each};
 
 use crate::engine::Engine;
-use crate::error::RunError;
+use crate::halt::Halt;
 use mp_record::event::{Event, Said};
 use mp_record::notes::LaneNotes;
-use mp_script::script::World;
+use mp_script::script::{Script, World};
 use mp_words::numbers::{LaneId, ReqId};
 use std::alloc::Global;
-use std::mem;
 
 /// The lane of the drain.
-fn drain_lane() -> LaneId
+pub fn drain_lane() -> LaneId
     ensures { result ≡ 16 }
 {
     LaneId::make(16).unwrap()
@@ -31,18 +31,18 @@ impl Engine {
         alloc: Global,
         notes: &mut LaneNotes,
         world: &World,
+        script: &Script,
         req: ReqId,
-    ) -> Result<bool, RunError>
-        requires ready { IsReady (state_of self.old) }
+    ) -> Result<bool, Halt>
+        requires tied { IsTied self.old }
         requires sound { (others : List ℕ) × IsSound (state_of self.old) (req ∷ others) }
-        ensures does { OnOk result (Does (plain.sends_and_finishes (inputs_of world.now) (state_of self.old) req) (state_of self.new) notes.old.events notes.new.events) }
-        ensures sent { IfOk result (λ sent. sent ≡ list_any plain.is_sent (plain.sends_and_finishes (inputs_of world.now) (state_of self.old) req).events) }
-        ensures ready { OnOk result (IsReady (state_of self.new)) }
+        ensures pays { Pays result 16 (pay_request (inputs_for world.now script.now) (state_of self.old) (left_of 16 self.old) req) self.old self.new notes.old.events notes.new.events }
+        ensures sent { IfOk result (λ sent. sent ≡ list_any is_sent (pay_request (inputs_for world.now script.now) (state_of self.old) (left_of 16 self.old) req).step.events) }
     {
         let lane = drain_lane();
         let sent = self.submit(notes, &world.topology.near, lane, req)?;
         let flights = self.flights[lane.get() as usize].all(alloc)?;
-        self.finish_each(notes, &flights)?;
+        self.finish_each(notes, script, &flights)?;
         Ok(sent)
     }
 
@@ -52,67 +52,72 @@ impl Engine {
         alloc: Global,
         notes: &mut LaneNotes,
         world: &World,
+        script: &Script,
         requests: &[ReqId],
-    ) -> Result<bool, RunError>
-        requires ready { IsReady (state_of self.old) }
+    ) -> Result<bool, Halt>
+        requires tied { IsTied self.old }
         requires sound { IsSound (state_of self.old) requests.now }
-        ensures does { OnOk result (Does (each (plain.sends_and_finishes (inputs_of world.now)) (state_of self.old) requests.now) (state_of self.new) notes.old.events notes.new.events) }
-        ensures sent { IfOk result (λ sent. sent ≡ list_any plain.is_sent (each (plain.sends_and_finishes (inputs_of world.now)) (state_of self.old) requests.now).events) }
-        ensures ready { OnOk result (IsReady (state_of self.new)) }
+        ensures pays { Pays result 16 (each_paid (pay_request (inputs_for world.now script.now)) (state_of self.old) (left_of 16 self.old) requests.now) self.old self.new notes.old.events notes.new.events }
+        ensures sent { IfOk result (λ sent. sent ≡ list_any is_sent (each_paid (pay_request (inputs_for world.now script.now)) (state_of self.old) (left_of 16 self.old) requests.now).step.events) }
         ensures sound { OnOk result (IsSound (state_of self.new) []) }
     {
         let mut any_sent = false;
         for req in requests {
-            let sent = self.send_and_finish(alloc, notes, world, *req)?;
+            let sent = self.send_and_finish(alloc, notes, world, script, *req)?;
             any_sent |= sent;
         }
         Ok(any_sent)
     }
 
-    /// Makes one round over those that wait: the list is taken whole, and each is submitted in order. Answers whether
-    /// one was sent.
+    /// Makes one round over these requests, which were taken from the list. Answers whether one was sent.
     fn round(
         &mut self,
         alloc: Global,
         notes: &mut LaneNotes,
         world: &World,
-    ) -> Result<bool, RunError>
-        requires ready { IsReady (state_of self.old) }
-        requires sound { IsSound (state_of self.old) [] }
-        ensures does { OnOk result (Does (plain.round (inputs_of world.now) (state_of self.old)) (state_of self.new) notes.old.events notes.new.events) }
-        ensures sent { IfOk result (λ sent. sent ≡ list_any plain.is_sent (plain.round (inputs_of world.now) (state_of self.old)).events) }
-        ensures ready { OnOk result (IsReady (state_of self.new)) }
+        script: &Script,
+        requests: &[ReqId],
+    ) -> Result<bool, Halt>
+        requires tied { IsTied self.old }
+        requires sound { IsSound (state_of self.old) requests.now }
+        requires taken { self.old.waiting ≡ [] }
+        ensures pays { Pays result 16 (pay_round (inputs_for world.now script.now) (record (state_of self.old) { waiting = requests.now }) (left_of 16 self.old)) self.old self.new notes.old.events notes.new.events }
+        ensures sent { IfOk result (λ sent. sent ≡ list_any is_sent (pay_round (inputs_for world.now script.now) (record (state_of self.old) { waiting = requests.now }) (left_of 16 self.old)).step.events) }
         ensures sound { OnOk result (IsSound (state_of self.new) []) }
     {
-        let count = self.waiting.len() as u32;
         notes.reserve(1)?;
-        let requests = mem::replace(&mut self.waiting, Vec::new(alloc));
         notes.push(Event::At {
             line: 0,
-            said: Said::Requeue(count),
+            said: Said::Requeue(requests.len() as u32),
         });
-        self.send_each(alloc, notes, world, &requests)
+        self.send_each(alloc, notes, world, script, requests)
     }
 
-    /// Makes rounds over those that wait. The first that sends nothing is the last.
+    /// Makes rounds over those that wait, each of which takes the list whole. The first that sends nothing is the last.
     pub fn drain(
         &mut self,
         alloc: Global,
         notes: &mut LaneNotes,
         world: &World,
-    ) -> Result<(), RunError>
-        requires ready { IsReady (state_of self.old) }
+        script: &Script,
+    ) -> Result<(), Halt>
+        requires tied { IsTied self.old }
         requires sound { IsSound (state_of self.old) [] }
-        ensures does { OnOk result (Does (plain.drain (inputs_of world.now) (state_of self.old)) (state_of self.new) notes.old.events notes.new.events) }
-        ensures sound { OnOk result (IsSound (state_of self.new) []) }
+        requires idle { flights_of 16 (state_of self.old) ≡ [] }
+        ensures pays { Pays result 16 (pay_drain (inputs_for world.now script.now) (state_of self.old) (left_of 16 self.old)) self.old self.new notes.old.events notes.new.events }
     {
-        let most = self.waiting.len();
-        let mut sent = self.round(alloc, notes, world)?;
+        let requests = self.waiting.take_all();
+        let most = match requests.len().checked_add(script.answers.len()) {
+            Some(most) => most,
+            None => return Err(Halt::NoMemory),
+        };
+        let mut sent = self.round(alloc, notes, world, script, &requests)?;
         for _ in 0..most {
             if !sent {
                 return Ok(());
             }
-            sent = self.round(alloc, notes, world)?;
+            let requests = self.waiting.take_all();
+            sent = self.round(alloc, notes, world, script, &requests)?;
         }
         Ok(())
     }

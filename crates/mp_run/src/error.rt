@@ -1,37 +1,41 @@
 //! Why a run isn't made.
 
-use mp_record::notes::NoteError;
-use mp_words::request::SubmitError;
+ghost use Rattle.std.specs.Prelude.{◌≡◌};
+ghost use Rattle.mp_run.specs.declared.error.RunError.TheVariants.{NoMemory};
+
+use crate::halt::Halt;
+use mp_words::numbers::LaneId;
 use std::alloc::{AllocError, AllocFailed};
-use thiserror::Error;
 
 /// Why a run isn't made.
-#[derive(Clone, Copy, Debug, Error)]
+#[derive(Clone, Copy)]
 pub enum RunError {
-    #[error("out of memory")]
+    /// Memory ran out.
     NoMemory,
+    /// The first lane, by number, that had fewer units left than its next call needs; 16 is the drain.
+    Spent(LaneId),
+}
+
+impl From<Halt> for RunError {
+    ghost from_gives = { λ _ e. e ≡ NoMemory };
+
+    fn from(_halt: Halt) -> RunError {
+        RunError::NoMemory
+    }
 }
 
 impl From<AllocError> for RunError {
+    ghost from_gives = { λ _ e. e ≡ NoMemory };
+
     fn from(_error: AllocError) -> RunError {
         RunError::NoMemory
     }
 }
 
 impl<T: Drop> From<AllocFailed<T>> for RunError {
+    ghost from_gives = { λ _ e. e ≡ NoMemory };
+
     fn from(_error: AllocFailed<T>) -> RunError {
-        RunError::NoMemory
-    }
-}
-
-impl From<NoteError> for RunError {
-    fn from(_error: NoteError) -> RunError {
-        RunError::NoMemory
-    }
-}
-
-impl From<SubmitError> for RunError {
-    fn from(_error: SubmitError) -> RunError {
         RunError::NoMemory
     }
 }

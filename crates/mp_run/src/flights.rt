@@ -1,13 +1,13 @@
 //! The flights of one lane.
 
-ghost use Rattle.std.specs.Prelude.{◌≡◌, ◌==◌, ◌++◌, ◌∷◌, [], false, not, IfOk, OnOk, filter, length};
+ghost use Rattle.std.specs.Prelude.{◌≡◌, ◌==◌, ◌++◌, ◌∷◌, [], false, not, IfOk, IfErr, OnOk, filter, length};
 ghost use Rattle.std.specs.Option.{option_to_list};
 ghost use Rattle.mp_legal.specs.Numbers.{has_flight};
 ghost use Rattle.mp_legal.specs.PlainLine.{flights_with};
 ghost use Rattle.mp_run.specs.Flying.{flying, flight_at};
 
 use crate::aloft::Aloft;
-use crate::error::RunError;
+use crate::halt::Halt;
 use crate::index::Index;
 use mp_words::numbers::ReqId;
 use std::alloc::Global;
@@ -53,9 +53,10 @@ impl Flights {
     /// # Errors
     ///
     /// `NoMemory` where memory runs out.
-    pub fn push(&mut self, flight: Aloft) -> Result<(), RunError>
+    pub fn push(&mut self, flight: Aloft) -> Result<(), Halt>
         requires fresh { has_flight flight.req self.old ≡ false }
-        ensures { OnOk result (self.new ≡ self.old ++ flight ∷ []) }
+        ensures added { OnOk result (self.new ≡ self.old ++ flight ∷ []) }
+        ensures cause { IfErr result (λ halt. halt ≡ Halt.NoMemory) }
     {
         self.sent.reserve(1)?;
         self.index.reserve()?;
@@ -94,8 +95,9 @@ impl Flights {
     /// # Errors
     ///
     /// `NoMemory` where memory runs out.
-    pub fn all(&self, alloc: Global) -> Result<Vec<Aloft>, RunError>
-        ensures { IfOk result (λ all. all.items ≡ self.now) }
+    pub fn all(&self, alloc: Global) -> Result<Vec<Aloft>, Halt>
+        ensures all { IfOk result (λ all. all.items ≡ self.now) }
+        ensures cause { IfErr result (λ halt. halt ≡ Halt.NoMemory) }
     {
         all_of(alloc, &self.sent)
     }
@@ -118,8 +120,9 @@ fn flight_at(sent: &[Option<Aloft>], place: usize, req: ReqId) -> Option<Aloft>
 }
 
 /// The flights that are there.
-fn all_of(alloc: Global, sent: &[Option<Aloft>]) -> Result<Vec<Aloft>, RunError>
-    ensures { IfOk result (λ all. all.items ≡ flying sent.now) }
+fn all_of(alloc: Global, sent: &[Option<Aloft>]) -> Result<Vec<Aloft>, Halt>
+    ensures all { IfOk result (λ all. all.items ≡ flying sent.now) }
+    ensures cause { IfErr result (λ halt. halt ≡ Halt.NoMemory) }
 {
     let mut all = Vec::new(alloc);
     for place in sent {

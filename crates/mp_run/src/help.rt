@@ -24,9 +24,12 @@ error says why there is none. The status with which the program ends:\n\
 \x20 1  memory ran out              6  the script is refused\n\
 \x20 2  the words are no form       7  the boxes are refused\n\
 \x20 3  a file couldn't be read     8  a file is too long\n\
-\x20 4  the output took no more\n\
+\x20 4  the output took no more     9  a lane is spent\n\
 \n\
 `file I` is the file's place among the files of the words, from 1.\n\
+\n\
+`lane L is spent`: each lane has 2097152 units, and the drain too, of which calls use some. L is\n\
+the first lane that had fewer left than its next call needs, or 16 for the drain.\n\
 \n\
 `topology refused WORD FIELD I`: FIELD is the name of a field in the file. I counts from 0: for\n\
 a controller's field it is the controller's place in the file, for `opening` the name's place in\n\
@@ -38,7 +41,6 @@ it is 0.\n\
 \x20            isn't there\n\
 \x20 Duplicate  a name that stands there for the second time\n\
 \x20 Limit      more than 64 controllers, or more than 8 names in `opening`\n\
-\x20 NotBuilt   this version runs the policy `numa` alone; nothing follows\n\
 \n\
 `script refused WORD N`: N is the number of the line, from 1, where every line counts.\n\
 \x20 NotAscii   a byte that no script has; here N is the byte's offset in the file, from 0\n\
@@ -49,7 +51,7 @@ it is 0.\n\
 \x20            controller without ANA, or none for one with it\n\
 \x20 Repeat     a request submitted, an attempt answered or a keeper's lane begun a second time\n\
 \x20 Limit      more than 65536 lines, or more than 16 lanes\n\
-\x20 NotBuilt   this version runs the lines `lane`, `keeper`, `submit` and `finish` alone\n\
+\x20 NotBuilt   this version doesn't run the lines `add`, `remove` and `reap`\n\
 \n\
 `boxes refused WORD N`: N is the offset of the box in the file, in bytes from 0.\n\
 \x20 TooMany    more than 1024 boxes; no number follows\n\

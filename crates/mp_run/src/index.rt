@@ -1,8 +1,8 @@
 //! Where what has a request's number stands.
 
-ghost use Rattle.std.specs.Prelude.{◌≡◌, ◌≤◌, ◌==◌, ℕ, [], OnOk, length, slice_index, if◌then◌else◌};
+ghost use Rattle.std.specs.Prelude.{◌≡◌, ◌≤◌, ◌==◌, ℕ, [], OnOk, IfErr, length, slice_index, if◌then◌else◌};
 
-use crate::error::RunError;
+use crate::halt::Halt;
 use mp_words::numbers::ReqId;
 use std::alloc::Global;
 use std::marker::Model;
@@ -51,9 +51,10 @@ impl Index {
     /// # Errors
     ///
     /// `NoMemory` where memory runs out.
-    pub fn reserve(&mut self) -> Result<(), RunError>
+    pub fn reserve(&mut self) -> Result<(), Halt>
         ensures room { OnOk result (65536 ≤ length self.new) }
         ensures same { (number : ℕ) → slice_index self.new number ≡ slice_index self.old number }
+        ensures cause { IfErr result (λ halt. halt ≡ Halt.NoMemory) }
     {
         self.places.resize(NUMBERS, 0)?;
         Ok(())

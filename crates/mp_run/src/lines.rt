@@ -1,23 +1,35 @@
 //! The turns of a lane.
 
-ghost use Rattle.std.specs.Prelude.{◌≡◌, ◌<◌, ◌^◌, ℕ, true, false, [], OnOk, Some, length};
+ghost use Rattle.std.specs.Prelude.{◌≡◌, ◌∷◌, ◌++◌, ℕ, true, false, [], ◌<◌, OnOk, IfOk, IfErr, Some, map};
+ghost use Rattle.mp_checks.specs.Checks.{Answers};
 ghost use Rattle.mp_checks.specs.Marks.{has};
-ghost use Rattle.mp_script.specs.declared.script.Line.TheVariants as line;
-ghost use Rattle.mp_legal.specs.PlainLine.{flights_of, flights_with, turn_step};
+ghost use Rattle.mp_record.specs.declared.event.Event.TheVariants as event;
+ghost use Rattle.mp_page.specs.Gifts.{page_at};
+ghost use Rattle.mp_script.specs.declared.script.Line.TheVariants as kind;
+ghost use Rattle.mp_script.specs.Facts.{submit_of, IsSimple};
+ghost use Rattle.mp_legal.specs.Inputs.{inputs_for, inputs_of};
 ghost use Rattle.mp_legal.specs.Numbers.{has_req};
-ghost use Rattle.mp_run.specs.Sound.{IsSound};
-ghost use Rattle.mp_legal.specs.Inputs.{inputs_of};
+ghost use Rattle.mp_legal.specs.PlainCall.{submit, finish};
+ghost use Rattle.mp_legal.specs.PlainLine.{flights_of, flights_with, finishes, page_said, place_of, start_of, turn_start};
+ghost use Rattle.mp_legal.specs.Stepped.{Place};
+ghost use Rattle.mp_legal.specs.Units.{each_paid, pay_call, pay_line};
+ghost use Rattle.mp_run.specs.Engine.{state_of, left_of, IsTied, Pays, Leaves, Runs};
 ghost use Rattle.mp_run.specs.LaneTurns.{submit_in, IsSimpleTurn};
-ghost use Rattle.mp_run.specs.Engine.{state_of, finishes_line, IsReady, Does, AreSent};
+ghost use Rattle.mp_run.specs.Sound.{IsSound, AreOf, AreThere};
+ghost use Rattle.mp_run.specs.World.{IsWorld};
 
 use crate::aloft::Aloft;
 use crate::engine::Engine;
-use crate::error::RunError;
+use crate::halt::Halt;
 use crate::turns::LaneTurn;
+use mp_change::log::log_op;
+use mp_page::laws::stated_state_is_in_range;
+use mp_page::{Page, PageError, read_page};
 use mp_record::event::{Event, Said};
 use mp_record::notes::LaneNotes;
-use mp_script::script::{Line, Numbered1, World};
-use mp_words::numbers::{LaneId, Node, ReqId};
+use mp_script::script::{Line, Script, World};
+use mp_words::numbers::{Ctrl, LaneId, Node, ReqId};
+use mp_words::op::Op;
 use std::alloc::Global;
 
 impl Engine {
@@ -28,26 +40,20 @@ impl Engine {
         notes: &mut LaneNotes,
         world: &World,
         lane: LaneId,
-        number: u32,
+        line: u32,
         req: ReqId,
         node: Node,
-    ) -> Result<(), RunError>
-        requires ready { IsReady (state_of self.old) }
+    ) -> Result<(), Halt>
+        requires tied { IsTied self.old }
         requires sound { IsSound (state_of self.old) [] }
         requires fresh { has_req req self.old.requests.asked ≡ false }
-        ensures does { OnOk result (Does (turn_step (inputs_of world.now) lane (state_of self.old) (Some (record { number = number; line = line.Submit req node }))) (state_of self.new) notes.old.events notes.new.events) }
-        ensures ready { OnOk result (IsReady (state_of self.new)) }
-        ensures sound { OnOk result (IsSound (state_of self.new) []) }
+        ensures pays { (script : Script) → Runs result world.now script lane line (start_of (inputs_for world.now script) lane (state_of self.old) (kind.Submit req node)) self.old self.new notes.old.events notes.new.events }
+        ensures small { req < 65536 }
     {
-        // The proof needs the ranges of both.
+        // The proof needs its range.
         let _number = req.get();
-        let _lane = lane.get();
-        notes.reserve(1)?;
+        say(notes, line, Said::Submit)?;
         self.requests.add(alloc, req, node)?;
-        notes.push(Event::At {
-            line: number,
-            said: Said::Submit,
-        });
         self.submit(notes, &world.topology.near, lane, req)?;
         Ok(())
     }
@@ -56,21 +62,35 @@ impl Engine {
     fn finish_line(
         &mut self,
         notes: &mut LaneNotes,
-        number: u32,
+        script: &Script,
+        line: u32,
         flights: &[Aloft],
-    ) -> Result<(), RunError>
-        requires ready { IsReady (state_of self.old) }
-        requires sent { AreSent self.old.requests.asked flights.now }
-        requires few { length flights.now < 2 ^ 32 }
-        ensures does { (lane : ℕ) → OnOk result (Does (finishes_line lane number flights.now (state_of self.old)) (state_of self.new) notes.old.events notes.new.events) }
-        ensures ready { OnOk result (IsReady (state_of self.new)) }
+    ) -> Result<(), Halt>
+        requires tied { IsTied self.old }
+        requires sound { IsSound (state_of self.old) [] }
+        requires there { AreThere (state_of self.old) flights.now }
+        ensures { (world : World) (lane : ℕ) → AreOf lane flights.now → Runs result world script.now lane line (finishes (state_of self.old) flights.now) self.old self.new notes.old.events notes.new.events }
     {
-        notes.reserve(1)?;
-        notes.push(Event::At {
-            line: number,
-            said: Said::Finish(flights.len() as u32),
-        });
-        self.finish_each(notes, flights)
+        say(notes, line, Said::Finish(flights.len() as u32))?;
+        self.finish_each(notes, script, flights)
+    }
+
+    /// Ends these flights in turn.
+    pub fn finish_each(
+        &mut self,
+        notes: &mut LaneNotes,
+        script: &Script,
+        flights: &[Aloft],
+    ) -> Result<(), Halt>
+        requires tied { IsTied self.old }
+        requires sound { IsSound (state_of self.old) [] }
+        requires there { AreThere (state_of self.old) flights.now }
+        ensures { (world : World) (at : Place) → AreOf at.lane flights.now → Pays result at.lane (each_paid (pay_call (inputs_for world script.now) at) (state_of self.old) (left_of at.lane self.old) (map finish flights.now)) self.old self.new notes.old.events notes.new.events }
+    {
+        for flight in flights {
+            self.finish(notes, &script.answers, *flight)?;
+        }
+        Ok(())
     }
 
     /// Ends all flights of a lane.
@@ -78,88 +98,201 @@ impl Engine {
         &mut self,
         alloc: Global,
         notes: &mut LaneNotes,
+        script: &Script,
         lane: LaneId,
-        number: u32,
-    ) -> Result<(), RunError>
-        requires ready { IsReady (state_of self.old) }
+        line: u32,
+    ) -> Result<(), Halt>
+        requires tied { IsTied self.old }
         requires sound { IsSound (state_of self.old) [] }
-        ensures does { OnOk result (Does (finishes_line lane number (flights_of lane (state_of self.old)) (state_of self.old)) (state_of self.new) notes.old.events notes.new.events) }
-        ensures ready { OnOk result (IsReady (state_of self.new)) }
-        ensures sound { OnOk result (IsSound (state_of self.new) []) }
+        ensures { (world : World) → Runs result world script.now lane line (finishes (state_of self.old) (flights_of lane (state_of self.old))) self.old self.new notes.old.events notes.new.events }
     {
         let flights = self.flights[lane.get() as usize].all(alloc)?;
-        self.finish_line(notes, number, &flights)
+        self.finish_line(notes, script, line, &flights)
     }
 
     /// Ends the flight of a request, where it has one in the lane.
     fn finish_request(
         &mut self,
         notes: &mut LaneNotes,
+        script: &Script,
         lane: LaneId,
-        number: u32,
+        line: u32,
         req: ReqId,
-    ) -> Result<(), RunError>
-        requires ready { IsReady (state_of self.old) }
+    ) -> Result<(), Halt>
+        requires tied { IsTied self.old }
         requires sound { IsSound (state_of self.old) [] }
-        ensures does { OnOk result (Does (finishes_line lane number (flights_with req (flights_of lane (state_of self.old))) (state_of self.old)) (state_of self.new) notes.old.events notes.new.events) }
-        ensures ready { OnOk result (IsReady (state_of self.new)) }
-        ensures sound { OnOk result (IsSound (state_of self.new) []) }
+        ensures { (world : World) → Runs result world script.now lane line (finishes (state_of self.old) (flights_with req (flights_of lane (state_of self.old)))) self.old self.new notes.old.events notes.new.events }
     {
         match self.flights[lane.get() as usize].find(req) {
-            Some(flight) => self.finish_line(notes, number, &[flight]),
-            None => self.finish_line(notes, number, &[]),
+            Some(flight) => self.finish_line(notes, script, line, &[flight]),
+            None => self.finish_line(notes, script, line, &[]),
         }
     }
 
-    /// Takes a turn: a line that submits or finishes, or the lane's end.
+    /// Takes the list whole, and submits each request in order.
+    fn requeue(
+        &mut self,
+        notes: &mut LaneNotes,
+        world: &World,
+        lane: LaneId,
+        line: u32,
+    ) -> Result<(), Halt>
+        requires tied { IsTied self.old }
+        requires sound { IsSound (state_of self.old) [] }
+        ensures { (script : Script) → Runs result world.now script lane line (start_of (inputs_for world.now script) lane (state_of self.old) kind.Requeue) self.old self.new notes.old.events notes.new.events }
+    {
+        notes.reserve(1)?;
+        let requests = self.waiting.take_all();
+        notes.push(Event::At {
+            line,
+            said: Said::Requeue(requests.len() as u32),
+        });
+        self.submit_each(notes, world, lane, &requests)
+    }
+
+    /// Submits these requests in turn.
+    fn submit_each(
+        &mut self,
+        notes: &mut LaneNotes,
+        world: &World,
+        lane: LaneId,
+        requests: &[ReqId],
+    ) -> Result<(), Halt>
+        requires tied { IsTied self.old }
+        requires sound { IsSound (state_of self.old) requests.now }
+        ensures { (script : Script) (line : ℕ) → Pays result lane (each_paid (pay_call (inputs_for world.now script) (record { lane = lane; line = line })) (state_of self.old) (left_of lane self.old) (map submit requests.now)) self.old self.new notes.old.events notes.new.events }
+    {
+        for req in requests {
+            self.submit(notes, &world.topology.near, lane, *req)?;
+        }
+        Ok(())
+    }
+
+    /// Reads a log page of a controller. A refused page is what the line says, and changes nothing.
+    fn log(
+        &mut self,
+        alloc: Global,
+        notes: &mut LaneNotes,
+        world: &World,
+        lane: LaneId,
+        line: u32,
+        ctrl: Ctrl,
+        number: u32,
+    ) -> Result<(), Halt>
+        requires world { IsWorld world.now }
+        requires tied { IsTied self.old }
+        ensures { (script : Script) → Runs result world.now script lane line (start_of (inputs_for world.now script) lane (state_of self.old) (kind.Log ctrl number)) self.old self.new notes.old.events notes.new.events }
+    {
+        stated_state_is_in_range();
+        match page_in(alloc, world, number) {
+            Ok(page) => {
+                let op = log_op(&page, world.topology.nsid);
+                self.change(notes, lane, line, ctrl, op)
+            }
+            Err(refusal) => {
+                let said = page_said(&refusal)?;
+                say(notes, line, said)
+            }
+        }
+    }
+
+    /// Takes a turn: a line, or the lane's end.
     pub fn take_turn(
         &mut self,
         alloc: Global,
         notes: &mut LaneNotes,
         world: &World,
+        script: &Script,
         turn: LaneTurn,
-    ) -> Result<(), RunError>
-        requires ready { IsReady (state_of self.old) }
+    ) -> Result<(), Halt>
+        requires world { IsWorld world.now }
+        requires tied { IsTied self.old }
         requires sound { IsSound (state_of self.old) [] }
         requires simple { IsSimpleTurn turn.line }
         requires fresh { (req : ℕ) → has (submit_in turn.line) req ≡ true → has_req req self.old.requests.asked ≡ false }
-        ensures does { OnOk result (Does (turn_step (inputs_of world.now) turn.lane (state_of self.old) turn.line) (state_of self.new) notes.old.events notes.new.events) }
-        ensures ready { OnOk result (IsReady (state_of self.new)) }
-        ensures sound { OnOk result (IsSound (state_of self.new) []) }
+        ensures pays { Pays result turn.lane (pay_line (inputs_for world.now script.now) (place_of turn.lane turn.line) (left_of turn.lane self.old) (turn_start (inputs_for world.now script.now) turn.lane (state_of self.old) turn.line)) self.old self.new notes.old.events notes.new.events }
+        ensures sound { Leaves result (IsSound (state_of self.new) []) }
     {
         let lane = turn.lane;
         match turn.line {
-            None => self.finish_all(alloc, notes, lane, 0),
-            Some(numbered) => self.take_line(alloc, notes, world, lane, numbered),
+            None => self.finish_all(alloc, notes, script, lane, 0),
+            Some(numbered) => {
+                let line = numbered.number;
+                let asked = numbered.line;
+                self.take_line(alloc, notes, world, script, lane, line, asked)
+            }
         }
     }
 
-    /// Runs a line that submits or finishes.
+    /// Runs a line.
     fn take_line(
         &mut self,
         alloc: Global,
         notes: &mut LaneNotes,
         world: &World,
+        script: &Script,
         lane: LaneId,
-        numbered: Numbered1,
-    ) -> Result<(), RunError>
-        requires ready { IsReady (state_of self.old) }
+        line: u32,
+        asked: Line,
+    ) -> Result<(), Halt>
+        requires world { IsWorld world.now }
+        requires tied { IsTied self.old }
         requires sound { IsSound (state_of self.old) [] }
-        requires simple { IsSimpleTurn (Some numbered) }
-        requires fresh { (req : ℕ) → has (submit_in (Some numbered)) req ≡ true → has_req req self.old.requests.asked ≡ false }
-        ensures does { OnOk result (Does (turn_step (inputs_of world.now) lane (state_of self.old) (Some numbered)) (state_of self.new) notes.old.events notes.new.events) }
-        ensures ready { OnOk result (IsReady (state_of self.new)) }
-        ensures sound { OnOk result (IsSound (state_of self.new) []) }
+        requires simple { IsSimple asked }
+        requires fresh { (req : ℕ) → has (submit_of asked) req ≡ true → has_req req self.old.requests.asked ≡ false }
+        ensures pays { Runs result world.now script.now lane line (start_of (inputs_for world.now script.now) lane (state_of self.old) asked) self.old self.new notes.old.events notes.new.events }
+        ensures small { (req : ℕ) → has (submit_of asked) req ≡ true → req < 65536 }
     {
-        let number = numbered.number;
-        let line = numbered.line;
-        match line {
+        match asked {
             Line::Submit(req, node) => {
-                self.submit_line(alloc, notes, world, lane, number, req, node)
+                self.submit_line(alloc, notes, world, lane, line, req, node)
             }
-            Line::Finish(req) => self.finish_request(notes, lane, number, req),
-            Line::FinishAll => self.finish_all(alloc, notes, lane, number),
+            Line::Finish(req) => self.finish_request(notes, script, lane, line, req),
+            Line::FinishAll => self.finish_all(alloc, notes, script, lane, line),
+            Line::Requeue => self.requeue(notes, world, lane, line),
+            Line::Log(ctrl, number) => self.log(alloc, notes, world, lane, line, ctrl, number),
+            Line::Ctrl(ctrl, cstate) => self.change(notes, lane, line, ctrl, Op::Ctrl(cstate)),
+            Line::Anatt(ctrl) => self.change(notes, lane, line, ctrl, Op::Expire),
+            Line::Policy(policy) => self.set_policy(notes, lane, line, policy),
             _ => unreachable!(),
         }
+    }
+}
+
+/// Notes what a line says.
+fn say(notes: &mut LaneNotes, line: u32, said: Said) -> Result<(), Halt>
+    ensures said { OnOk result (notes.new.events ≡ notes.old.events ++ event.At line said ∷ []) }
+    ensures cause { IfErr result (λ halt. halt ≡ Halt.NoMemory) }
+{
+    notes.reserve(1)?;
+    notes.push(Event::At { line, said });
+    Ok(())
+}
+
+/// The page in a box.
+fn page_in(alloc: Global, world: &World, number: u32) -> Result<Page, PageError>
+    requires { IsWorld world.now }
+    ensures { Answers PageError.NoMemory result (page_at (inputs_of world.now).pages number) }
+{
+    match world.pages.get(number as usize) {
+        Some(bytes) => read_page(alloc, bytes, world.topology.anagrpmax),
+        None => Err(PageError::ShortHeader(0)),
+    }
+}
+
+/// What a line says of a refused page, unless memory ran out.
+fn page_said(refusal: &PageError) -> Result<Said, Halt>
+    ensures said { IfOk result (λ said. said ≡ page_said refusal.now) }
+    ensures refused { OnOk result (refusal.now ≡ PageError.NoMemory → ⊥) }
+    ensures cause { IfErr result (λ halt. halt ≡ Halt.NoMemory) }
+{
+    match refusal {
+        PageError::ShortHeader(offset) => Ok(Said::Page(1, *offset)),
+        PageError::ShortDescriptor(offset) => Ok(Said::Page(2, *offset)),
+        PageError::GroupZero(offset) => Ok(Said::Page(3, *offset)),
+        PageError::GroupAbove(offset) => Ok(Said::Page(4, *offset)),
+        PageError::StateBad(offset) => Ok(Said::Page(5, *offset)),
+        PageError::ShortList(offset) => Ok(Said::Page(6, *offset)),
+        PageError::NoMemory => Err(Halt::NoMemory),
     }
 }

@@ -9,7 +9,7 @@ ghost use Rattle.mp_run.specs.Outside.{failed_by};
 ghost use Rattle.mp_script.specs.Facts as scripts;
 ghost use Rattle.mp_script.specs.Script.{script_in};
 ghost use Rattle.mp_topology.specs.Topology.{topology_in};
-ghost use Rattle.mp_topology.specs.Facts.{IsTopology, IsBuilt};
+ghost use Rattle.mp_topology.specs.Facts.{IsTopology};
 
 use crate::status::Status;
 use mp_io::errors::ReadError;
@@ -57,7 +57,6 @@ pub(crate) fn topology_of(alloc: Global, bytes: &[u8]) -> Result<Topology, Statu
     ensures exact { Gives (λ t. t) result (topology_or (topology_in bytes.now)) }
     ensures refused { IfErr result IsTextStatus }
     ensures read { IfOk result IsTopology }
-    ensures built { IfOk result IsBuilt }
 {
     match read_topology(alloc, bytes) {
         Ok(topology) => Ok(topology),

@@ -1,43 +1,52 @@
-//! The requests of a run, in the order submitted.
+//! The requests of a run, by number.
 
-ghost use Rattle.std.specs.Prelude.{◌≡◌, ◌≤◌, ◌+◌, ◌<◌, ◌++◌, ◌∷◌, [], true, false, IfOk, OnOk, OnErr, None, length, map, take};
+ghost use Rattle.std.specs.Prelude.{◌≡◌, ◌≤◌, ◌+◌, [], true, false, IfOk, IfErr, OnOk, None, Some, length, map};
 ghost use Rattle.std.specs.List.{last_or};
-ghost use Rattle.mp_words.specs.Request.{asked_of, outcome_of, tried_of};
+ghost use Rattle.mp_words.specs.Request.{asked_of, outcome_of};
 ghost use Rattle.mp_words.specs.declared.trying.Outcome.TheVariants as outcome;
-ghost use Rattle.mp_legal.specs.PlainState.{with_tries};
-ghost use Rattle.mp_legal.specs.PlainFinish.{ended_tries};
-ghost use Rattle.mp_legal.specs.TryRead.{read_of};
-ghost use Rattle.mp_run.specs.Notes.{notes_of, AreNoted};
+ghost use Rattle.mp_submit.specs.Finishes.{Finishes};
+ghost use Rattle.mp_core.specs.Views.{has_flight};
+ghost use Rattle.mp_run.specs.Notes.{AreNoted, notes_of};
+ghost use Rattle.mp_run.specs.Requesting.{AreTold, NotesSubmit, SubmitsOne, FinishesOne};
 ghost use Rattle.mp_legal.specs.Numbers.{asked_at, has_req, standing};
+ghost use Rattle.mp_legal.specs.PlainState.{with_new};
 
-use crate::error::RunError;
-use crate::index::Index;
+use crate::halt::Halt;
 use crate::try_notes::TryNotes;
+use mp_core::gate::NoGate;
+use mp_core::steps::Steps;
+use mp_submit::finish::{Finished, finish};
+use mp_submit::submit::{Submitted, submit};
+use mp_words::answers::Answers;
+use mp_words::flight::Flight;
+use mp_words::near::Near;
+use mp_words::numbered::Numbered;
 use mp_words::numbers::{Node, ReqId};
 use mp_words::request::Request;
-use mp_words::trying::{Back, Try};
+use mp_words::trying::Try;
 use std::alloc::Global;
+use std::collections::BTreeMap;
 use std::marker::Model;
 
-/// The requests, in the order submitted, each found by its number.
+/// The requests, by number.
 #[derive(Drop)]
 pub struct Requests {
-    all: Vec<Request>,
-    index: Index,
+    all: BTreeMap<u32, Request>,
     noted: TryNotes,
 }
 
 impl Model for Requests {
     ghost use Rattle.std.specs.Prelude.{map};
+    ghost use Rattle.std.specs.BTreeMap.{values};
     ghost use Rattle.mp_words.specs.Request.{asked_of};
     ghost use Rattle.mp_run.specs.Notes.{AreKept, reads_in};
     ghost use Rattle.mp_run.specs.RequestsView.{RequestsView};
 
     ghost Value = { RequestsView };
 
-    ghost view = { λ r. record { asked = map asked_of r.all.items; noted = reads_in r.noted.made } };
+    ghost view = { λ r. record { asked = map asked_of (values r.all); noted = reads_in r.noted.made } };
 
-    ghost invariant = { λ r. AreKept r.index r.all.items (reads_in r.noted.made) };
+    ghost invariant = { λ r. AreKept r.all.entries (reads_in r.noted.made) };
 }
 
 impl Requests {
@@ -46,8 +55,7 @@ impl Requests {
         ensures { result ≡ record { asked = []; noted = [] } }
     {
         Requests {
-            all: Vec::new(alloc),
-            index: Index::make(alloc),
+            all: BTreeMap::new(alloc),
             noted: TryNotes::none(),
         }
     }
@@ -57,15 +65,13 @@ impl Requests {
     /// # Errors
     ///
     /// `NoMemory` where memory runs out.
-    pub fn add(&mut self, alloc: Global, req: ReqId, node: Node) -> Result<(), RunError>
+    pub fn add(&mut self, alloc: Global, req: ReqId, node: Node) -> Result<(), Halt>
         requires fresh { has_req req self.old.asked ≡ false }
-        ensures added { OnOk result (self.new.asked ≡ self.old.asked ++ record { req = req; node = node; tries = [] } ∷ []) }
+        ensures added { OnOk result (self.new.asked ≡ with_new (record { req = req; node = node; tries = [] }) self.old.asked) }
         ensures noted { self.new.noted ≡ self.old.noted }
+        ensures cause { IfErr result (λ halt. halt ≡ Halt.NoMemory) }
     {
-        self.all.reserve(1)?;
-        self.index.reserve()?;
-        self.index.put(req, self.all.len());
-        self.all.push_reserved(Request::make(alloc, req, node));
+        let _none = self.all.insert(req.get(), Request::make(alloc, req, node))?;
         Ok(())
     }
 
@@ -74,15 +80,7 @@ impl Requests {
         requires there { has_req req self.now.asked ≡ true }
         ensures { asked_of result.now ≡ asked_at req self.now.asked }
     {
-        &self.all[self.index.at(req)]
-    }
-
-    /// The node of a request.
-    pub fn node(&self, req: ReqId) -> Node
-        requires there { has_req req self.now.asked ≡ true }
-        ensures { result ≡ (asked_at req self.now.asked).node }
-    {
-        self.at(req).node()
+        self.all.get(&req.get()).unwrap()
     }
 
     /// The number of a request's next try, from 1.
@@ -90,11 +88,12 @@ impl Requests {
     /// # Errors
     ///
     /// `NoMemory` where the number doesn't fit.
-    pub fn next_hop(&self, req: ReqId) -> Result<u32, RunError>
+    pub fn next_hop(&self, req: ReqId) -> Result<u32, Halt>
         requires there { has_req req self.now.asked ≡ true }
-        ensures { IfOk result (λ hop. hop ≡ length (asked_at req self.now.asked).tries + 1) }
+        ensures hop { IfOk result (λ hop. hop ≡ length (asked_at req self.now.asked).tries + 1) }
+        ensures cause { IfErr result (λ halt. halt ≡ Halt.NoMemory) }
     {
-        u32::try_from(self.at(req).tries().len() + 1).map_err(|_| RunError::NoMemory)
+        u32::try_from(self.at(req).tries().len() + 1).map_err(|_| Halt::NoMemory)
     }
 
     /// The number of a request's last try, from 1, or 0 without one.
@@ -102,80 +101,105 @@ impl Requests {
     /// # Errors
     ///
     /// `NoMemory` where the number doesn't fit.
-    pub fn last_hop(&self, req: ReqId) -> Result<u32, RunError>
+    pub fn last_hop(&self, req: ReqId) -> Result<u32, Halt>
         requires there { has_req req self.now.asked ≡ true }
-        ensures { IfOk result (λ hop. hop ≡ length (asked_at req self.now.asked).tries) }
+        ensures hop { IfOk result (λ hop. hop ≡ length (asked_at req self.now.asked).tries) }
+        ensures cause { IfErr result (λ halt. halt ≡ Halt.NoMemory) }
     {
-        u32::try_from(self.at(req).tries().len()).map_err(|_| RunError::NoMemory)
+        u32::try_from(self.at(req).tries().len()).map_err(|_| Halt::NoMemory)
     }
 
-    /// Appends a try to a request that waits, whose attempts are still to come, with what it noted.
+    /// Submits a request that waits, by the steps of a pass that has a unit left and no open section.
+    ///
+    /// # Errors
+    ///
+    /// `NoMemory` where memory runs out, before any step.
+    pub fn submit<S: Steps>(
+        &mut self,
+        steps: &mut S,
+        near: &Near,
+        req: ReqId,
+    ) -> Result<Submitted, Halt>
+        requires there { has_req req self.old.asked ≡ true }
+        requires waiting { standing req self.old.asked ≡ outcome.Waiting }
+        requires left { 1 ≤ (S.core steps.old).view.left }
+        requires closed { (S.core steps.old).view.inside ≡ None }
+        ensures submits { IfOk result (λ answer. SubmitsOne near.now (S.core steps.old) (S.core steps.new) req self.old self.new answer) }
+        ensures cause { IfErr result (λ halt. halt ≡ Halt.NoMemory) }
+    {
+        let request = self.all.get_mut(&req.get()).unwrap();
+        request.reserve()?;
+        Ok(submit_one(steps, near, request, &mut self.noted))
+    }
+
+    /// Ends a flight of a request that was sent by it, by the steps of a pass that has a unit left and no open section.
+    /// Answers the request's last try.
+    pub fn finish<S: Steps>(&mut self, steps: &mut S, answers: &Answers, flight: Flight) -> Try
+        requires there { has_req flight.req self.old.asked ≡ true }
+        requires sent { standing flight.req self.old.asked ≡ outcome.Sent }
+        requires left { 1 ≤ (S.core steps.old).view.left }
+        requires closed { (S.core steps.old).view.inside ≡ None }
+        requires flies { has_flight flight (S.core steps.old).view ≡ true }
+        requires told { AreTold (S.core steps.old) }
+        ensures finishes { FinishesOne answers.now (S.core steps.old) (S.core steps.new) flight self.old self.new result }
+    {
+        let request = self.all.get_mut(&flight.req.get()).unwrap();
+        finish_one(steps, answers, flight, request)
+    }
+
+    /// The requests, by number.
     ///
     /// # Errors
     ///
     /// `NoMemory` where memory runs out.
-    pub fn tried(&mut self, req: ReqId, made: Try) -> Result<(), RunError>
-        requires there { has_req req self.old.asked ≡ true }
-        requires waiting { standing req self.old.asked ≡ outcome.Waiting }
-        requires next { made.hop ≡ length (asked_at req self.old.asked).tries + 1 }
-        requires count { made.count ≡ 0 }
-        requires back { made.back ≡ None }
-        ensures tried { OnOk result (self.new.asked ≡ with_tries req ((asked_at req self.old.asked).tries ++ tried_of made ∷ []) self.old.asked) }
-        ensures noted { OnOk result (self.new.noted ≡ self.old.noted ++ (req, read_of made.note) ∷ []) }
+    pub fn into_vec(self, alloc: Global) -> Result<Vec<Request>, Halt>
+        ensures asked { IfOk result (λ all. map asked_of all.items ≡ self.asked) }
+        ensures noted { IfOk result (λ all. AreNoted self.noted all.items) }
+        ensures cause { IfErr result (λ halt. halt ≡ Halt.NoMemory) }
     {
-        let place = self.index.at(req);
-        append_try(&mut self.all[place], made)?;
-        self.noted.note(&req, &made.note);
-        Ok(())
-    }
-
-    /// Ends the last try of a request that was sent, by the statuses of its attempts.
-    pub fn ended(&mut self, req: ReqId, statuses: [u16; 6], count: u8, back: Option<Back>)
-        requires there { has_req req self.old.asked ≡ true }
-        requires sent { standing req self.old.asked ≡ outcome.Sent }
-        requires low { 1 ≤ count }
-        requires high { count ≤ 6 }
-        ensures ended { self.new.asked ≡ with_tries req (ended_tries (take count statuses) back (asked_at req self.old.asked).tries) self.old.asked }
-        ensures noted { self.new.noted ≡ self.old.noted }
-    {
-        let place = self.index.at(req);
-        end_try(&mut self.all[place], statuses, count, back);
-    }
-
-    /// The requests, in the order submitted.
-    pub fn into_vec(self) -> Vec<Request>
-        ensures asked { map asked_of result.items ≡ self.asked }
-        ensures noted { AreNoted self.noted result.items }
-    {
-        self.all
+        Ok(self.all.into_values().collect(alloc)?)
     }
 }
 
-/// Appends a try.
-fn append_try(request: &mut Request, made: Try) -> Result<(), RunError>
+/// Submits a request, and notes what its try read.
+fn submit_one<S: Steps>(
+    steps: &mut S,
+    near: &Near,
+    request: &mut Request,
+    noted: &mut TryNotes,
+) -> Submitted
+    requires left { 1 ≤ (S.core steps.old).view.left }
+    requires closed { (S.core steps.old).view.inside ≡ None }
+    requires spare { 1 ≤ request.old.spare }
     requires waiting { outcome_of (last_or None (asked_of request.old).tries) ≡ outcome.Waiting }
-    requires next { made.hop ≡ length request.old.tries + 1 }
-    requires count { made.count ≡ 0 }
-    requires back { made.back ≡ None }
-    ensures tries { OnOk result (asked_of request.new ≡ record (asked_of request.old) { tries = (asked_of request.old).tries ++ tried_of made ∷ [] }) }
-    ensures noted { OnOk result (notes_of request.new ≡ notes_of request.old ++ read_of made.note ∷ []) }
-    ensures kept { OnErr result ((asked_of request.new ≡ asked_of request.old) × (notes_of request.new ≡ notes_of request.old)) }
-    ensures id { request.new.id ≡ request.old.id }
+    ensures { NotesSubmit near.now (S.core steps.old) (S.core steps.new) request.old request.new result noted.old.made noted.new.made }
 {
-    request.reserve()?;
-    request.tried(made);
-    Ok(())
+    let answer = submit(steps, &NoGate, near, request);
+    let made = request.tries().last().unwrap();
+    noted.note(&request.id(), &made.note);
+    answer
 }
 
-/// Ends the last try.
-#[tactic(auto, using(crate::proofs::EndTry::tried_ended))]
-fn end_try(request: &mut Request, statuses: [u16; 6], count: u8, back: Option<Back>)
+/// Ends a flight of a request that was sent by it, and answers the request's last try.
+fn finish_one<S: Steps>(
+    steps: &mut S,
+    answers: &Answers,
+    flight: Flight,
+    request: &mut Request,
+) -> Try
+    requires left { 1 ≤ (S.core steps.old).view.left }
+    requires closed { (S.core steps.old).view.inside ≡ None }
+    requires flies { has_flight flight (S.core steps.old).view ≡ true }
     requires sent { outcome_of (last_or None (asked_of request.old).tries) ≡ outcome.Sent }
-    requires low { 1 ≤ count }
-    requires high { count ≤ 6 }
-    ensures tries { asked_of request.new ≡ record (asked_of request.old) { tries = ended_tries (take count statuses) back (asked_of request.old).tries } }
-    ensures noted { notes_of request.new ≡ notes_of request.old }
-    ensures id { request.new.id ≡ request.old.id }
+    requires told { AreTold (S.core steps.old) }
+    ensures finishes { (answer : Finished) × Finishes answers.now (S.core steps.old) (S.core steps.new) flight request.old request.new answer }
+    ensures last { last_or None request.new.tries ≡ Some result }
+    ensures kept { (request.new.id ≡ request.old.id) × (notes_of request.new ≡ notes_of request.old) }
 {
-    request.ended(statuses, count, back);
+    match finish(steps, &NoGate, flight, request, answers) {
+        Finished::Done(_) => (),
+        Finished::Back(_) => (),
+        Finished::Moved(_flight, _, _) => unreachable!(),
+    }
+    *request.tries().last().unwrap()
 }

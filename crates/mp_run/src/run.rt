@@ -1,41 +1,46 @@
 //! Runs a script on one thread.
 
-ghost use Rattle.std.specs.Prelude.{◌≡◌, ◌≤◌, ◌++◌, ℕ, true, [], IfOk, OnOk, length, map, position, replicate, vec_len};
+ghost use Rattle.std.specs.Prelude.{◌≡◌, ◌≤◌, ◌<◌, ◌++◌, ℕ, true, false, [], None, Some, Ok, Err, IfOk, IfErr, is_none, OnOk, length, map, position, replicate, vec_len};
+ghost use Rattle.std.specs.List.{AllByRecursion};
+ghost use Rattle.mp_checks.specs.Marks.{has};
 ghost use Rattle.mp_words.specs.Request.{asked_of};
 ghost use Rattle.mp_record.specs.RunView.{view_of, events_of};
-ghost use Rattle.mp_legal.specs.Opening as plain;
-ghost use Rattle.mp_run.specs.World.{IsWorld};
 ghost use Rattle.mp_script.specs.Facts.{IsScript, IsBuilt, submits_in};
 ghost use Rattle.mp_script.specs.Distinct.{IsDistinct};
-ghost use Rattle.mp_run.specs.Engine.{state_of, IsReady};
-ghost use Rattle.mp_legal.specs.Inputs.{inputs_of};
-ghost use Rattle.mp_run.specs.LaneTurns.{turn_of, turns_submits};
-ghost use Rattle.mp_run.specs.OnTurns.{AreSimpleTurns, IsOn};
-ghost use Rattle.mp_legal.specs.PlainLine.{flights_of};
-ghost use Rattle.mp_run.specs.Quiet.{IsQuiet, closes};
-ghost use Rattle.mp_run.specs.Told.{IsOver, AreNumbered};
-ghost use Rattle.mp_run.specs.Notes.{AreNoted};
+ghost use Rattle.mp_legal.specs.Inputs.{inputs_of, inputs_for};
 ghost use Rattle.mp_legal.specs.Numbers.{has_req};
-ghost use Rattle.mp_checks.specs.Marks.{has};
-ghost use Rattle.std.specs.List.{AllByRecursion};
-ghost use Rattle.mp_legal.specs.PlainRun.{by_number, run_over, reads_over};
+ghost use Rattle.mp_legal.specs.Opening as plain;
+ghost use Rattle.mp_legal.specs.PlainLine.{flights_of};
+ghost use Rattle.mp_legal.specs.PlainRun.{run_over, reads_over};
+ghost use Rattle.mp_legal.specs.Units.{pay_turn, pay_drain, serial_over};
+ghost use Rattle.mp_run.specs.Engine.{state_of, left_of, IsTied, IsPaid};
+ghost use Rattle.mp_run.specs.LaneTurns.{turn_of, turns_submits, submit_in, IsSimpleTurn};
+ghost use Rattle.mp_run.specs.Notes.{AreNoted};
+ghost use Rattle.mp_run.specs.OnTurns.{AreSimpleTurns, IsOn, TakesAll, all_turns, gathered_run, stage_of};
 ghost use Rattle.mp_run.specs.Sound.{IsSound};
-ghost use Rattle.mp_legal.specs.Turns.{turns_of};
+ghost use Rattle.mp_run.specs.Taking.{left_if, left_or, Takes};
+ghost use Rattle.mp_run.specs.Told.{IsOver, AreNumbered};
+ghost use Rattle.mp_run.specs.World.{IsWorld};
 
+use crate::drain::drain_lane;
 use crate::engine::Engine;
 use crate::error::RunError;
+use crate::first_words::opening;
 use crate::flights::Flights;
-use crate::gather::{histories, keeping, numbered};
+use crate::gather::{histories, keeping};
+use crate::halt::Halt;
+use crate::made::Made;
 use crate::opening::{opening_order, opening_rows};
 use crate::requests::Requests;
 use crate::turns::{LaneTurn, lane_of, turns};
+use mp_page::laws::stated_state_is_in_range;
+use mp_plain::plain::Plain;
 use mp_record::event::Event;
 use mp_record::notes::LaneNotes;
 use mp_record::run::Run;
+use mp_requeue::private::Private;
 use mp_script::script::{LanePlan, Script, World};
-use mp_words::entry::{KeepEntry, RowEntry};
 use mp_words::numbers::LaneId;
-use mp_words::request::Request;
 use sqlite_items::Items;
 use std::alloc::Global;
 
@@ -53,18 +58,85 @@ fn no_flights(alloc: Global) -> Result<Vec<Flights>, RunError>
     Ok(lanes)
 }
 
-/// The state with which a run begins.
-fn start(alloc: Global, world: &World) -> Result<Engine, RunError>
+/// The state with which a run begins, with so many units for each lane and for the drain.
+fn start(alloc: Global, world: &World, allowance: u32) -> Result<Engine, RunError>
     requires world { IsWorld world.now }
-    ensures { IfOk result (λ engine. state_of engine ≡ plain.opening (inputs_of world.now)) }
+    requires few { allowance ≤ 2097152 }
+    ensures state { IfOk result (λ engine. state_of engine ≡ plain.opening (inputs_of world.now)) }
+    ensures tied { IfOk result IsTied }
+    ensures lefts { IfOk result (λ engine. (lane : ℕ) → lane < 17 → left_of lane engine ≡ allowance) }
+    ensures made { IfOk result (λ engine. (engine.made.rows.items ≡ []) × (engine.made.orders.items ≡ [])) }
 {
+    stated_state_is_in_range();
+    let words = opening(alloc, world)?;
+    let Ok(plain) = Plain::make(alloc, &words, allowance) else {
+        return Err(RunError::NoMemory);
+    };
+    let flights = no_flights(alloc)?;
     Ok(Engine {
-        rows: opening_rows(alloc, world)?,
-        order: opening_order(&world.topology),
-        flights: no_flights(alloc)?,
-        waiting: Vec::new(alloc),
+        plain,
+        flights,
+        waiting: Private::make(alloc),
         requests: Requests::make(alloc),
+        made: Made::none(alloc),
     })
+}
+
+/// Takes a turn of a lane that isn't spent. Answers whether it is spent by it: its flights are ended then.
+fn take_paid(
+    engine: &mut Engine,
+    alloc: Global,
+    world: &World,
+    script: &Script,
+    notes: &mut LaneNotes,
+    turn: LaneTurn,
+) -> Result<bool, RunError>
+    requires world { IsWorld world.now }
+    requires tied { IsTied engine.old }
+    requires sound { IsSound (state_of engine.old) [] }
+    requires simple { IsSimpleTurn turn.line }
+    requires fresh { (req : ℕ) → has (submit_in turn.line) req ≡ true → has_req req engine.old.requests.asked ≡ false }
+    ensures paid { IfOk result (λ spent. IsPaid turn.lane (pay_turn (inputs_for world.now script.now) turn.lane (state_of engine.old) turn.line (Some (left_of turn.lane engine.old))) (left_if spent turn.lane engine.new) engine.old engine.new notes.old.events notes.new.events) }
+    ensures sound { OnOk result (IsSound (state_of engine.new) []) }
+    ensures refused { IfErr result (λ why. why ≡ RunError.NoMemory) }
+{
+    let lane = turn.lane;
+    match engine.take_turn(alloc, notes, world, script, turn) {
+        Ok(()) => Ok(false),
+        Err(Halt::NoMemory) => Err(RunError::NoMemory),
+        Err(Halt::Spent) => {
+            engine.settle(alloc, lane)?;
+            Ok(true)
+        }
+    }
+}
+
+/// Takes a turn, unless the lane is spent. A lane that is spent by it has its flights ended.
+fn take_turn(
+    engine: &mut Engine,
+    alloc: Global,
+    world: &World,
+    script: &Script,
+    notes: &mut LaneNotes,
+    spent: &mut [bool; 16],
+    turn: LaneTurn,
+) -> Result<(), RunError>
+    requires world { IsWorld world.now }
+    requires tied { IsTied engine.old }
+    requires sound { IsSound (state_of engine.old) [] }
+    requires lane { turn.lane < 16 }
+    requires simple { IsSimpleTurn turn.line }
+    requires fresh { (req : ℕ) → has (submit_in turn.line) req ≡ true → has_req req engine.old.requests.asked ≡ false }
+    ensures takes { OnOk result (Takes turn.lane (pay_turn (inputs_for world.now script.now) turn.lane (state_of engine.old) turn.line (left_or spent.old turn.lane engine.old)) spent.old spent.new engine.old engine.new notes.old.events notes.new.events) }
+    ensures sound { OnOk result (IsSound (state_of engine.new) []) }
+    ensures refused { IfErr result (λ why. why ≡ RunError.NoMemory) }
+{
+    let place = turn.lane.get() as usize;
+    if spent[place] {
+        return Ok(());
+    }
+    spent[place] = take_paid(engine, alloc, world, script, notes, turn)?;
+    Ok(())
 }
 
 /// Takes these turns, and notes each in its lane.
@@ -72,31 +144,36 @@ fn take_turns(
     engine: &mut Engine,
     alloc: Global,
     world: &World,
+    script: &Script,
     lanes: &mut Vec<LaneNotes>,
+    spent: &mut [bool; 16],
     turns: &[LaneTurn],
 ) -> Result<(), RunError>
-    requires ready { IsReady (state_of engine.old) }
+    requires world { IsWorld world.now }
+    requires tied { IsTied engine.old }
     requires sound { IsSound (state_of engine.old) [] }
+    requires few { vec_len lanes.old ≤ 16 }
     requires turns { AreSimpleTurns (vec_len lanes.old) (map turn_of turns.now) }
     requires fresh { IsDistinct (map (λ a. a.req) engine.old.requests.asked ++ turns_submits (map turn_of turns.now)) }
-    requires quiet { IsQuiet (state_of engine.old) }
-    ensures on { OnOk result (IsOn (inputs_of world.now) (map turn_of turns.now) [] (state_of engine.old) (state_of engine.new) (map events_of lanes.old.items) (map events_of lanes.new.items)) }
-    ensures ready { OnOk result (IsReady (state_of engine.new)) }
+    ensures on { OnOk result (IsOn (inputs_for world.now script.now) (map turn_of turns.now) [] (stage_of spent.old engine.old (vec_len lanes.old) (map events_of lanes.old.items)) (stage_of spent.new engine.new (vec_len lanes.old) (map events_of lanes.new.items))) }
+    ensures tied { OnOk result (IsTied engine.new) }
     ensures sound { OnOk result (IsSound (state_of engine.new) []) }
     ensures lanes { OnOk result (vec_len lanes.new ≡ vec_len lanes.old) }
-    ensures quiet { OnOk result ((lane : ℕ) → closes lane true (map turn_of turns.now) ≡ true → flights_of lane (state_of engine.new) ≡ []) }
-    ensures numbers { OnOk result (map (λ a. a.req) engine.new.requests.asked ≡ map (λ a. a.req) engine.old.requests.asked ++ turns_submits (map turn_of turns.now)) }
+    ensures drain { OnOk result (left_of 16 engine.new ≡ left_of 16 engine.old) }
+    ensures others { OnOk result ((lane : ℕ) → vec_len lanes.old ≤ lane → lane < 16 → left_or spent.new lane engine.new ≡ left_or spent.old lane engine.old) }
+    ensures refused { IfErr result (λ why. why ≡ RunError.NoMemory) }
 {
     for turn in turns {
         let notes = &mut lanes[turn.lane.get() as usize];
-        engine.take_turn(alloc, notes, world, *turn)?;
+        take_turn(engine, alloc, world, script, notes, spent, *turn)?;
     }
     Ok(())
 }
 
 /// Notes of so many lanes, of which none says anything yet.
 fn blank_lanes(alloc: Global, count: usize) -> Result<Vec<LaneNotes>, RunError>
-    ensures { IfOk result (λ lanes. map events_of lanes.items ≡ replicate count []) }
+    ensures exact { IfOk result (λ lanes. map events_of lanes.items ≡ replicate count []) }
+    ensures refused { IfErr result (λ why. why ≡ RunError.NoMemory) }
 {
     // The proof of a push needs each type inside notes named here.
     let _: Option<Event> = None;
@@ -107,6 +184,18 @@ fn blank_lanes(alloc: Global, count: usize) -> Result<Vec<LaneNotes>, RunError>
     Ok(lanes)
 }
 
+/// The first lane that is spent, if one is.
+fn first_spent(spent: &[bool; 16]) -> Option<LaneId>
+    ensures { result ≡ position (λ s. s) spent.now }
+{
+    for place in 0..16usize {
+        if spent[place] {
+            return Some(lane_of(place));
+        }
+    }
+    None
+}
+
 /// Runs all lanes by turns.
 fn run_lanes(
     engine: &mut Engine,
@@ -114,24 +203,48 @@ fn run_lanes(
     world: &World,
     script: &Script,
 ) -> Result<Vec<LaneNotes>, RunError>
-    requires ready { IsReady (state_of engine.old) }
+    requires world { IsWorld world.now }
+    requires tied { IsTied engine.old }
     requires sound { IsSound (state_of engine.old) [] }
     requires first { engine.old.requests.asked ≡ [] }
-    requires quiet { IsQuiet (state_of engine.old) }
     requires script { IsScript script.now }
     requires built { IsBuilt script.now }
-    ensures on { IfOk result (λ lanes. IsOn (inputs_of world.now) (turns_of script.now.lanes) [] (state_of engine.old) (state_of engine.new) (replicate (length script.now.lanes) []) (map events_of lanes.items)) }
-    ensures count { IfOk result (λ lanes. vec_len lanes ≡ length script.now.lanes) }
-    ensures ready { OnOk result (IsReady (state_of engine.new)) }
+    ensures takes { IfOk result (λ lanes. TakesAll (inputs_for world.now script.now) script.now.lanes engine.old engine.new (map events_of lanes.items)) }
+    ensures enough { IfOk result (λ lanes. position is_none (all_turns (inputs_for world.now script.now) script.now.lanes engine.old).lefts ≡ None) }
+    ensures spent { (lane : ℕ) → result ≡ Err (RunError.Spent lane) → position is_none (all_turns (inputs_for world.now script.now) script.now.lanes engine.old).lefts ≡ Some lane }
+    ensures tied { OnOk result (IsTied engine.new) }
     ensures sound { OnOk result (IsSound (state_of engine.new) []) }
-    ensures quiet { OnOk result (IsQuiet (state_of engine.new)) }
-    ensures numbers { OnOk result (map (λ a. a.req) engine.new.requests.asked ≡ turns_submits (turns_of script.now.lanes)) }
 {
     let plans = script.lanes.as_slice();
     let mut lanes = blank_lanes(alloc, plans.len())?;
     let turns = turns(alloc, plans)?;
-    take_turns(engine, alloc, world, &mut lanes, &turns)?;
-    Ok(lanes)
+    let mut spent = [false; 16];
+    take_turns(engine, alloc, world, script, &mut lanes, &mut spent, &turns)?;
+    match first_spent(&spent) {
+        Some(lane) => Err(RunError::Spent(lane)),
+        None => Ok(lanes),
+    }
+}
+
+/// Drains the list.
+fn drained(
+    engine: &mut Engine,
+    alloc: Global,
+    world: &World,
+    script: &Script,
+) -> Result<LaneNotes, RunError>
+    requires tied { IsTied engine.old }
+    requires sound { IsSound (state_of engine.old) [] }
+    requires idle { flights_of 16 (state_of engine.old) ≡ [] }
+    ensures paid { IfOk result (λ drain. IsPaid 16 (pay_drain (inputs_for world.now script.now) (state_of engine.old) (left_of 16 engine.old)) (Some (left_of 16 engine.new)) engine.old engine.new [] drain.events) }
+    ensures spent { (lane : ℕ) → result ≡ Err (RunError.Spent lane) → (lane ≡ 16) × ((pay_drain (inputs_for world.now script.now) (state_of engine.old) (left_of 16 engine.old)).left ≡ None) }
+{
+    let mut drain = LaneNotes::make(alloc);
+    match engine.drain(alloc, &mut drain, world, script) {
+        Ok(()) => Ok(drain),
+        Err(Halt::NoMemory) => Err(RunError::NoMemory),
+        Err(Halt::Spent) => Err(RunError::Spent(drain_lane())),
+    }
 }
 
 /// The keeper's lane, where there is one.
@@ -147,57 +260,62 @@ fn keeper_of(plans: &[LanePlan]) -> Option<LaneId>
     None
 }
 
-/// The requests of a run that is over, by number.
-fn requests_of(alloc: Global, engine: Engine) -> Result<Items<Request>, RunError>
-    ensures told { IfOk result (λ requests. map asked_of requests ≡ by_number engine.requests.asked) }
-    ensures noted { IfOk result (AreNoted engine.requests.noted) }
-{
-    let Engine {
-        rows: _,
-        order: _,
-        flights: _,
-        waiting: _,
-        requests,
-    } = engine;
-    numbered(alloc, requests.into_vec())
-}
-
-/// A run of these parts, in which no row and no list changed.
+/// A run of what the engine has made, and of what the lanes and the drain noted.
 fn gathered(
     alloc: Global,
     world: &World,
     script: &Script,
-    rows: Items<Items<RowEntry>>,
-    keeping: Items<KeepEntry>,
     lanes: Vec<LaneNotes>,
     drain: LaneNotes,
     engine: Engine,
 ) -> Result<Run, RunError>
-    requires { length script.now.lanes ≤ 16 }
-    ensures exact { IfOk result (λ run. view_of run ≡ record { nsid = world.now.topology.nsid; keeper = position (λ plan. plan.keeper) script.now.lanes; rows = rows; keeping = keeping; lanes = map events_of lanes.items; drain = drain.events; requests = by_number engine.requests.asked }) }
+    requires world { IsWorld world.now }
+    requires lanes { length script.now.lanes ≤ 16 }
+    ensures exact { IfOk result (λ run. view_of run ≡ gathered_run (inputs_of world.now) script.now.lanes engine (map events_of lanes.items) drain.events) }
     ensures noted { IfOk result (λ run. AreNoted engine.requests.noted run.requests) }
 {
-    let requests = requests_of(alloc, engine)?;
+    let Engine {
+        plain: _,
+        flights: _,
+        waiting: _,
+        requests,
+        made,
+    } = engine;
+    let opened = opening_rows(alloc, world)?;
+    let rows = histories(alloc, &opened, &made.rows)?;
+    let order = opening_order(&world.topology);
+    let keeping = keeping(alloc, order, &made.orders)?;
+    let all = requests.into_vec(alloc)?;
+    let keeper = keeper_of(script.lanes.as_slice());
     Ok(Run {
         nsid: world.topology.nsid,
-        keeper: keeper_of(script.lanes.as_slice()),
+        keeper,
         rows,
         keeping,
         lanes: Items::from_vec(lanes),
         drain,
-        requests,
+        requests: Items::from_vec(all),
     })
 }
 
-/// The run of a script on one thread.
+/// The run of a script on one thread, with so many units for each lane and for the drain.
 ///
 /// # Errors
 ///
-/// `NoMemory` where memory runs out.
-pub fn run(alloc: Global, world: &World, script: &Script) -> Result<Run, RunError>
+/// `NoMemory` where memory runs out, and `Spent` with the first lane, by number, that had fewer units left than its next
+/// call needs, 16 for the drain.
+pub fn serial(
+    alloc: Global,
+    world: &World,
+    script: &Script,
+    allowance: u32,
+) -> Result<Run, RunError>
     requires world { IsWorld world.now }
     requires script { IsScript script.now }
     requires built { IsBuilt script.now }
+    requires few { allowance ≤ 2097152 }
+    ensures paid { IfOk result (λ run. serial_over allowance world.now script.now ≡ Ok (view_of run)) }
+    ensures spent { (lane : ℕ) → result ≡ Err (RunError.Spent lane) → serial_over allowance world.now script.now ≡ Err lane }
     ensures exact { IfOk result (λ run. view_of run ≡ run_over world.now script.now) }
 
     // The requests are those that the script submits. They stand by number, each once, and each is done, failed or
@@ -206,14 +324,16 @@ pub fn run(alloc: Global, world: &World, script: &Script) -> Result<Run, RunErro
     ensures numbered { IfOk result (λ run. AreNumbered (map asked_of run.requests)) }
     ensures over { IfOk result (λ run. AllByRecursion IsOver (map asked_of run.requests)) }
 
-    // Each try notes its lane and what it read.
+    // Each try notes its lane, the list and what it read.
     ensures noted { IfOk result (λ run. AreNoted (reads_over world.now script.now) run.requests) }
 {
-    let mut engine = start(alloc, world)?;
-    let rows = histories(alloc, &engine.rows)?;
-    let keeping = keeping(alloc, engine.order)?;
+    let Ok(mut engine) = start(alloc, world, allowance) else {
+        return Err(RunError::NoMemory);
+    };
     let lanes = run_lanes(&mut engine, alloc, world, script)?;
-    let mut drain = LaneNotes::make(alloc);
-    engine.drain(alloc, &mut drain, world)?;
-    gathered(alloc, world, script, rows, keeping, lanes, drain, engine)
+    let drain = drained(&mut engine, alloc, world, script)?;
+    match gathered(alloc, world, script, lanes, drain, engine) {
+        Ok(run) => Ok(run),
+        Err(_) => Err(RunError::NoMemory),
+    }
 }

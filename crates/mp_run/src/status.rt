@@ -3,6 +3,7 @@
 use mp_page::BoxError;
 use mp_script::errors::ScriptError;
 use mp_topology::errors::TopologyError;
+use mp_words::numbers::LaneId;
 
 /// How a call of the program ends.
 #[derive(Clone, Copy)]
@@ -25,6 +26,8 @@ pub enum Status {
     Boxes(BoxError),
     /// The file with this number, from 1, has more than 16,777,216 bytes.
     TooLong(u8),
+    /// The lane had fewer units left than its next call needs; 16 is the drain.
+    Spent(LaneId),
 }
 
 impl Status {
@@ -45,6 +48,7 @@ impl Status {
             Status::Script(_) => 6,
             Status::Boxes(_) => 7,
             Status::TooLong(_) => 8,
+            Status::Spent(_) => 9,
         }
     }
 }

@@ -7,15 +7,17 @@ ghost use Rattle.mp_run.specs.World.{IsWorld};
 ghost use Rattle.mp_script.specs.Facts as scripts;
 ghost use Rattle.mp_run.specs.Forms.{serial};
 ghost use Rattle.mp_run.specs.FormsView.{names_of, told_form};
+ghost use Rattle.mp_run.specs.Status.{run_status};
 ghost use Rattle.mp_run.specs.Outcome.{read_of, boxes_or, serial_text, serial_for, serial_in, pages_for, pages_in, text_in, own_text, Gives, AreReadBefore, IsReadStatus, IsRunStatus, IsTextStatus};
 ghost use Rattle.mp_run.specs.Outside.{files_of, status_of, Reads, Fails};
 ghost use Rattle.mp_page.specs.Boxes.{boxes_in};
 ghost use Rattle.mp_run.specs.Help.{help_text, version_text};
 
+use crate::error::RunError;
 use crate::forms::{Form, Names};
 use crate::help::{help, version};
 use crate::reading::{boxes_of, check_fits, read_file, script_of, topology_of};
-use crate::run::run;
+use crate::run::serial as run;
 use crate::status::Status;
 use mp_io::folder::Folder;
 use mp_page::page_text;
@@ -23,17 +25,32 @@ use mp_record::text::run_text;
 use mp_script::script::{Script, World};
 use std::alloc::Global;
 
+/// How many units each lane and the drain have.
+const UNITS: u32 = 2_097_152;
+
 /// The text of a run.
 #[tactic(auto, unfolding(crate::specs::Outcome::serial_text))]
 fn text_of_run(alloc: Global, world: &World, script: &Script) -> Result<Vec<u8>, Status>
     requires world { IsWorld world.now }
     requires script { scripts.IsScript script.now }
     requires built { scripts.IsBuilt script.now }
-    ensures exact { IfOk result (λ text. text.items ≡ serial_text world.now script.now) }
-    ensures refused { IfErr result (λ status. status ≡ Status.NoMemory) }
+    ensures exact { Gives (λ text. text.items) result (serial_text world.now script.now) }
+    ensures refused { IfErr result IsTextStatus }
 {
-    let run = run(alloc, world, script).map_err(|_| Status::NoMemory)?;
-    run_text(alloc, &run, &world.topology, false).map_err(|_| Status::NoMemory)
+    match run(alloc, world, script, UNITS) {
+        Ok(run) => { run_text(alloc, &run, &world.topology, false).map_err(|_| Status::NoMemory) }
+        Err(why) => Err(halted(&why)),
+    }
+}
+
+/// The status of a run that isn't made.
+fn halted(why: &RunError) -> Status
+    ensures { result ≡ run_status why.now }
+{
+    match why {
+        RunError::NoMemory => Status::NoMemory,
+        RunError::Spent(lane) => Status::Spent(*lane),
+    }
 }
 
 /// The text of a run for the bytes of the three files. The bytes of the boxes are let go once they are read.

@@ -1,6 +1,6 @@
 //! Which lane runs what, turn by turn.
 
-ghost use Rattle.std.specs.Prelude.{◌≡◌, ◌≤◌, ◌<◌, ◌^◌, ◌++◌, ◌∷◌, [], IfOk, OnOk, length, map};
+ghost use Rattle.std.specs.Prelude.{◌≡◌, ◌≤◌, ◌<◌, ◌^◌, ◌++◌, ◌∷◌, [], IfOk, IfErr, OnOk, length, map};
 ghost use Rattle.mp_legal.specs.Turns as plain;
 ghost use Rattle.mp_run.specs.LaneTurns.{turn_of};
 
@@ -30,7 +30,8 @@ fn longest(plans: &[LanePlan]) -> usize
 
 /// Adds a turn.
 fn push(turns: &mut Vec<LaneTurn>, turn: LaneTurn) -> Result<(), RunError>
-    ensures { OnOk result (map turn_of turns.new.items ≡ map turn_of turns.old.items ++ turn_of turn ∷ []) }
+    ensures exact { OnOk result (map turn_of turns.new.items ≡ map turn_of turns.old.items ++ turn_of turn ∷ []) }
+    ensures refused { IfErr result (λ why. why ≡ RunError.NoMemory) }
 {
     // The proof of a push needs each type inside a turn named here.
     let _: (Option<Numbered1>, Option<Line>) = (None, None);
@@ -46,7 +47,8 @@ fn push_turn(
     plan: &LanePlan,
     round: usize,
 ) -> Result<(), RunError>
-    ensures { OnOk result (map turn_of turns.new.items ≡ map turn_of turns.old.items ++ plain.turn_in round (lane, plan.now)) }
+    ensures exact { OnOk result (map turn_of turns.new.items ≡ map turn_of turns.old.items ++ plain.turn_in round (lane, plan.now)) }
+    ensures refused { IfErr result (λ why. why ≡ RunError.NoMemory) }
 {
     let lines = plan.lines.as_slice();
     if round < lines.len() {
@@ -70,7 +72,8 @@ pub fn lane_of(place: usize) -> LaneId
 /// Adds the turns of one round, lane 0 first.
 fn push_round(turns: &mut Vec<LaneTurn>, plans: &[LanePlan], round: usize) -> Result<(), RunError>
     requires { length plans.now ≤ 16 }
-    ensures { OnOk result (map turn_of turns.new.items ≡ map turn_of turns.old.items ++ plain.round_of plans.now round) }
+    ensures exact { OnOk result (map turn_of turns.new.items ≡ map turn_of turns.old.items ++ plain.round_of plans.now round) }
+    ensures refused { IfErr result (λ why. why ≡ RunError.NoMemory) }
 {
     for (lane, plan) in plans.iter().enumerate() {
         push_turn(turns, lane_of(lane), plan, round)?;
@@ -86,7 +89,8 @@ fn push_round(turns: &mut Vec<LaneTurn>, plans: &[LanePlan], round: usize) -> Re
 pub fn turns(alloc: Global, plans: &[LanePlan]) -> Result<Vec<LaneTurn>, RunError>
     requires lanes { length plans.now ≤ 16 }
     requires few { plain.longest plans.now < 2 ^ 32 }
-    ensures { IfOk result (λ turns. map turn_of turns.items ≡ plain.turns_of plans.now) }
+    ensures exact { IfOk result (λ turns. map turn_of turns.items ≡ plain.turns_of plans.now) }
+    ensures refused { IfErr result (λ why. why ≡ RunError.NoMemory) }
 {
     let mut turns = Vec::new(alloc);
     for round in 0..longest(plans) + 1 {

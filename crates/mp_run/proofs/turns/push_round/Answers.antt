@@ -10,7 +10,7 @@ loop-lane-preserved c =
     let lane = c.loop-lane.lane in
     let plan = c.index-plans-lane.result in
     let old = map turn_of c.args.turns.now.items in
-    c.in_ok-push_turn.ensures
+    c.in_ok-push_turn.ensures.exact
     ∙ ap (λ (n : ℕ). map turn_of c.loop-lane.turns.items ++ turn_in c.args.round (n, plan)) c.lane_of.ensures
     ∙ ap (λ (ts : List Turn). ts ++ turn_in c.args.round (lane, plan)) c.loop-lane.invariant
     ∙ append_assoc old (round_of (take lane plans) c.args.round) (turn_in c.args.round (lane, plan))

@@ -1,37 +1,27 @@
-use Rattle.std.proofs.Common.{Some, refl}
-use Rattle.std.proofs.lemmas.Result.{on_ok_weaker}
-use Rattle.mp_legal.specs.PlainLine.{turn_step, flights_of, flights_with}
-use Rattle.mp_legal.specs.Inputs.{inputs_of}
-use Rattle.mp_run.specs.Engine.{state_of, finishes_line}
-use Rattle.mp_script.specs.declared.script.Line.TheVariants as line
-use Rattle.mp_run.proofs.SubmitLines.{submit_step}
-use Rattle.mp_run.proofs.FinishLines.{finish_step, finish_all_step, does_same}
+use Rattle.mp_words.specs.declared.op.Op.TheVariants as op
+use Rattle.mp_legal.specs.Inputs.{inputs_for}
+use Rattle.mp_legal.specs.PlainCall.{Inputs, change, set_policy}
+use Rattle.mp_legal.specs.Stepped.{Place}
+use Rattle.mp_run.proofs.PaidLines.{call_pays}
 use Rattle.mp_run.proofs.engine.Engine.take_line.Goals as goal
 
-pub returns-in-Submit-clause-does : goal.returns-in-Submit-clause-does
-returns-in-Submit-clause-does c =
-    let s = state_of c.args.self.now in
-    let i = inputs_of c.args.world.now in
-    let n = c.args.numbered in
-    on_ok_weaker c.submit_line.result
-    (λ does. does_same (turn_step i c.args.lane s (Some n)) (turn_step i c.args.lane s (Some (record { number = n.number; line = line.Submit c.in-Submit.req c.in-Submit.node })))
-    (state_of c.submit_line.new.self) c.args.notes.now.events c.submit_line.new.notes.events (submit_step i c.args.lane s n c.in-Submit.req c.in-Submit.node c.in-Submit.is) does)
-    c.submit_line.ensures.does
+pub returns-in-Submit-clause-pays : goal.returns-in-Submit-clause-pays
+returns-in-Submit-clause-pays c = rw c.in-Submit.is (c.submit_line.ensures.pays c.args.script.now)
 
-pub returns-in-Finish-clause-does : goal.returns-in-Finish-clause-does
-returns-in-Finish-clause-does c =
-    let s = state_of c.args.self.now in
-    let i = inputs_of c.args.world.now in
-    on_ok_weaker c.finish_request.result
-    (λ does. does_same (turn_step i c.args.lane s (Some c.args.numbered)) (finishes_line c.args.lane c.args.numbered.number (flights_with c.in-Finish.req (flights_of c.args.lane s)) s)
-    (state_of c.finish_request.new.self) c.args.notes.now.events c.finish_request.new.notes.events (finish_step i c.args.lane s c.args.numbered c.in-Finish.req refl c.in-Finish.is) does)
-    c.finish_request.ensures.does
+pub returns-in-Ctrl-clause-pays : goal.returns-in-Ctrl-clause-pays
+returns-in-Ctrl-clause-pays c =
+    let i : Inputs = inputs_for c.args.world.now c.args.script.now in
+    let at : Place = record { lane = c.args.lane; line = c.args.line } in
+    rw c.in-Ctrl.is (call_pays c.change.result i at (change c.in-Ctrl.ctrl (op.Ctrl c.in-Ctrl.cstate)) c.args.self.now c.change.new.self c.args.notes.now.events c.change.new.notes.events c.change.ensures.pays)
 
-pub returns-in-FinishAll-clause-does : goal.returns-in-FinishAll-clause-does
-returns-in-FinishAll-clause-does c =
-    let s = state_of c.args.self.now in
-    let i = inputs_of c.args.world.now in
-    on_ok_weaker c.finish_all.result
-    (λ does. does_same (turn_step i c.args.lane s (Some c.args.numbered)) (finishes_line c.args.lane c.args.numbered.number (flights_of c.args.lane s) s)
-    (state_of c.finish_all.new.self) c.args.notes.now.events c.finish_all.new.notes.events (finish_all_step i c.args.lane s c.args.numbered refl c.in-FinishAll.is) does)
-    c.finish_all.ensures.does
+pub returns-in-Anatt-clause-pays : goal.returns-in-Anatt-clause-pays
+returns-in-Anatt-clause-pays c =
+    let i : Inputs = inputs_for c.args.world.now c.args.script.now in
+    let at : Place = record { lane = c.args.lane; line = c.args.line } in
+    rw c.in-Anatt.is (call_pays c.change-in-Anatt.result i at (change c.in-Anatt.ctrl op.Expire) c.args.self.now c.change-in-Anatt.new.self c.args.notes.now.events c.change-in-Anatt.new.notes.events c.change-in-Anatt.ensures.pays)
+
+pub returns-in-Policy-clause-pays : goal.returns-in-Policy-clause-pays
+returns-in-Policy-clause-pays c =
+    let i : Inputs = inputs_for c.args.world.now c.args.script.now in
+    let at : Place = record { lane = c.args.lane; line = c.args.line } in
+    rw c.in-Policy.is (call_pays c.set_policy.result i at (set_policy c.in-Policy.policy) c.args.self.now c.set_policy.new.self c.args.notes.now.events c.set_policy.new.notes.events c.set_policy.ensures.pays)

@@ -29,8 +29,8 @@ invariant_of-self-2 c =
     let count : length (flying (sent ++ Some c.args.flight ∷ [])) ≡ length (flying sent) + 1 = ap length (flying-append sent (Some c.args.flight ∷ [])) ∙ length-append (flying sent) (c.args.flight ∷ []) in
     rw all (placed_more c.put.new.self 0 sent c.args.flight put at, omega (arith, count, c.self.invariant.1))
 
-pub returns : goal.returns
-returns c =
+pub returns-clause-added : goal.returns-clause-added
+returns-clause-added c =
     ap flying (c.push_reserved.ensures.items ∙ ap (λ s. s ++ Some c.args.flight ∷ []) c.reserve.ensures.items)
     ∙ flying-append c.self.inside.sent.items (Some c.args.flight ∷ [])
     ∙ ap (λ (fs : List Flight). fs ++ c.args.flight ∷ []) c.self.view_is
