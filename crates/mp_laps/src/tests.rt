@@ -6,7 +6,7 @@ ghost use Rattle.mp_plain.specs.Told.{told_core};
 use crate::bench::{bench, one_node, two_paths};
 use crate::lap::{LapEnd, one_lap};
 use mp_change::change::{ChangeEnd, Changing, change};
-use mp_core::gate::NoGate;
+use mp_core::gate::{Gate, NoGate};
 use mp_plain::plain::Plain;
 use mp_words::answers::Answers;
 use mp_words::numbers::{Ctrl, LaneId, Node, ReqId};
@@ -14,6 +14,7 @@ use mp_words::op::{Maker, Op};
 use mp_words::request::Request;
 use mp_words::row::CState;
 use mp_words::trying::{Back, Outcome, TryEnd};
+use std::sync::atomic::{AtomicU32, Ordering};
 use std::test::Fail;
 
 #[test]
@@ -146,5 +147,58 @@ fn a_request_is_listed_or_failed(rt: HostRuntime) -> Result<(), Fail> {
     one_lap(&mut plain, &NoGate, &one_node(), &mut failed, &answers);
     assert!(rt; matches!(failed.outcome(), Outcome::Failed));
     assert_eq!(rt; plain.words().sides[0], 8 << 32);
+    Ok(())
+}
+
+/// A gate that counts the sections that called it.
+#[derive(Drop)]
+struct Counting {
+    sections: AtomicU32,
+}
+
+impl Gate for Counting {
+    fn line(&self, _lane: LaneId, _line: u32) {}
+
+    fn inside(&self, _lane: LaneId) {
+        self.sections.fetch_add(1, Ordering::SeqCst);
+    }
+}
+
+#[test]
+fn each_section_calls_the_gate_once(rt: HostRuntime) -> Result<(), Fail> {
+    let alloc = rt.alloc();
+    let gate = Counting {
+        sections: AtomicU32::new(0),
+    };
+    let mut plain = Plain::make(alloc, &two_paths(), 100)?;
+    let mut answers = Answers::make(alloc);
+    let id = ReqId::make(7).unwrap();
+    answers.add(id, 1, 0x0302)?;
+    answers.add(id, 2, 0x0370)?;
+    let mut request = Request::make(alloc, id, Node::make(0).unwrap());
+    request.reserve()?;
+    // A submit, and a failover by an ANA status.
+    one_lap(&mut plain, &gate, &one_node(), &mut request, &answers);
+    assert_eq!(rt; gate.sections.load(Ordering::SeqCst), 2);
+    if matches!(request.outcome(), Outcome::Waiting) {
+        request.reserve()?;
+        // And one by another status.
+        one_lap(&mut plain, &gate, &one_node(), &mut request, &answers);
+        assert_eq!(rt; gate.sections.load(Ordering::SeqCst), 4);
+        if matches!(request.outcome(), Outcome::Waiting) {
+            request.reserve()?;
+            // A finish that completes has no section.
+            one_lap(&mut plain, &gate, &one_node(), &mut request, &answers);
+            assert_eq!(rt; gate.sections.load(Ordering::SeqCst), 5);
+            let by = Maker::Line {
+                lane: LaneId::make(0).unwrap(),
+                line: 1,
+            };
+            change(&mut plain, &gate, Ctrl::make(0).unwrap(), Op::Expire, by);
+        }
+    }
+    assert!(rt; matches!(request.outcome(), Outcome::Done(0)));
+    assert_eq!(rt; gate.sections.load(Ordering::SeqCst), 6);
+    assert_eq!(rt; plain.words().sides[0], 6 << 32);
     Ok(())
 }
