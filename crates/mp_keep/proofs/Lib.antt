@@ -1,0 +1,16 @@
+pub mod Clearing
+pub mod Lists
+pub mod Finding
+pub mod Removals
+pub mod Statuses
+pub mod Opening
+pub mod Stands
+pub mod Marking
+pub mod Adding
+pub mod Distinct
+pub mod Closing
+pub mod Looking
+pub mod Freeing
+pub mod Walking
+pub mod Reaping
+pub mod Answering
