@@ -83,6 +83,11 @@ clears_left every_one slot v = refl
 clears_left the_slots slot v = refl
 clears_left none slot v = refl
 
+pub clears_inside : (c : Clears) (slot : ℕ) (v : View) → (clears_view c slot v).inside ≡ v.inside
+clears_inside every_one slot v = refl
+clears_inside the_slots slot v = refl
+clears_inside none slot v = refl
+
 clear_start : (r : Role) (node slot : ℕ) (k : Keeping) → (clear_by r node slot k).start ≡ k.start
 clear_start role.Keeper node slot k = refl
 clear_start (role.Lane lane) node slot k = refl

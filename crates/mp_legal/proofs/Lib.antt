@@ -5,3 +5,14 @@ pub mod EndedTries
 pub mod FinishStep
 pub mod Sending
 pub mod SubmitStep
+pub mod KeptWords
+pub mod PolicyStep
+pub mod KeptPaths
+pub mod RemoveStep
+pub mod AddStep
+pub mod PlainWalk
+pub mod ReapStep
+pub mod WalkSteps
+pub mod Walking
+pub mod Freeing
+pub mod Unlisting

@@ -19,6 +19,7 @@ pub mod Numbers
 pub mod Inputs
 pub mod ToldState
 pub mod ToldCalls
+pub mod ToldKeeper
 pub mod CaseAllFifteenSlots
 pub mod CaseChangeArmsAndTimerExpires
 pub mod CaseDeadControllersFailARequest
