@@ -1,7 +1,6 @@
 pub mod ByNumber
 pub mod WithNew
 pub mod Keyed
-pub mod Indexed
 pub mod NoteLists
 pub mod EndsOne
 pub mod LaneCores
@@ -58,3 +57,4 @@ pub mod Outcomes
 pub mod Asking
 pub mod TopLaws
 pub mod Accepting
+pub mod Spending

@@ -21,7 +21,7 @@ use Rattle.mp_run.specs.TooLong.{IsLong, IsLongOf, IsTooLong}
 
 -- ---- a refusal, and what comes before it
 
-bind_err : {A B : Type 0} (r : Result A Status) (f : A → Result B Status) (e : Status) → (r >>= f) ≡ Err e
+pub bind_err : {A B : Type 0} (r : Result A Status) (f : A → Result B Status) (e : Status) → (r >>= f) ≡ Err e
     → (r ≡ Err e) ⊎ ((x : A) × (r ≡ Ok x) × (f x ≡ Err e))
 bind_err (Ok x) f e h = inr (x, refl, h)
 bind_err (Err s) f e h = inl (ap Err cc)
@@ -140,7 +140,7 @@ outcome_is_long files (Some (pages name max)) i long = pages_is_long files name 
 outcome_is_long files (Some help) i long = absurd long
 outcome_is_long files (Some version) i long = absurd long
 
-unless_free : (read : Result (List ℕ) Status) (wanted : Status) (old new : Option (List ℕ)) (status : Status) → read ≡ Err wanted → Answers read old new status → IsUnlessFree wanted status
+pub unless_free : (read : Result (List ℕ) Status) (wanted : Status) (old new : Option (List ℕ)) (status : Status) → read ≡ Err wanted → Answers read old new status → IsUnlessFree wanted status
 unless_free read wanted old new end.Ok is told = absurd cc
 unless_free read wanted old new end.WriteFault is told = absurd cc
 unless_free read wanted old new end.NoMemory is told = tt

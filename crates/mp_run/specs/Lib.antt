@@ -1,8 +1,6 @@
 -- What the engine keeps against the plain run, and what the top call answers.
 pub mod Notes
 pub mod RequestsView
-pub mod Indexed
-pub mod Flying
 pub mod Keeping
 pub mod Requesting
 pub mod Calls

@@ -23,14 +23,14 @@ ghost use Rattle.mp_legal.specs.Units.{paid_if, came_back};
 ghost use Rattle.mp_run.specs.Calls.{ended_by, flights_put, waiting_put, FliesNot, Empties, EndsEach};
 ghost use Rattle.mp_run.specs.Engine.{state_of, left_of, IsTied, Pays};
 
-use crate::aloft::Aloft;
-use crate::flights::Flights;
 use crate::halt::Halt;
 use crate::made::Made;
 use crate::requests::Requests;
 use mp_change::change::{ChangeEnd, Changing, change};
 use mp_core::gate::NoGate;
 use mp_core::steps::{KeeperSteps, Steps};
+use mp_flights::aloft::Aloft;
+use mp_flights::flights::Flights;
 use mp_legal::calls::{
     change_is_the_plain_step, finish_is_the_plain_step, submit_is_the_plain_step,
 };
@@ -172,6 +172,7 @@ impl Engine {
         ensures made { OnOk result ((self.new.made.rows.items ≡ self.old.made.rows.items) × (self.new.made.orders.items ≡ self.old.made.orders.items)) }
         ensures tied { OnOk result (IsTied self.new) }
         ensures lefts { OnOk result ((other : ℕ) → other < 17 → left_of other self.new ≡ left_of other self.old) }
+        ensures cause { IfErr result (λ halt. halt ≡ Halt.NoMemory) }
     {
         let place = lane.get() as usize;
         let flights = self.flights[place].all(alloc)?;

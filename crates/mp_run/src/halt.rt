@@ -3,6 +3,7 @@
 ghost use Rattle.std.specs.Prelude.{◌≡◌};
 ghost use Rattle.mp_run.specs.declared.halt.Halt.TheVariants.{NoMemory};
 
+use mp_flights::error::FlightsError;
 use mp_record::notes::NoteError;
 use mp_words::request::SubmitError;
 use std::alloc::{AllocError, AllocFailed};
@@ -28,6 +29,14 @@ impl<T: Drop> From<AllocFailed<T>> for Halt {
     ghost from_gives = { λ _ e. e ≡ NoMemory };
 
     fn from(_error: AllocFailed<T>) -> Halt {
+        Halt::NoMemory
+    }
+}
+
+impl From<FlightsError> for Halt {
+    ghost from_gives = { λ _ e. e ≡ NoMemory };
+
+    fn from(_error: FlightsError) -> Halt {
         Halt::NoMemory
     }
 }

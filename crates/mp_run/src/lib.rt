@@ -1,17 +1,14 @@
 //! Runs a script on one thread, and the top call.
 #![tactic(auto)]
 
-mod aloft;
 mod drain;
 mod engine;
 pub mod error;
 pub mod first_words;
-mod flights;
 mod forms;
 mod gather;
 mod halt;
 mod help;
-mod index;
 pub mod laws;
 mod lines;
 mod made;

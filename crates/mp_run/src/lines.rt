@@ -18,11 +18,11 @@ ghost use Rattle.mp_run.specs.LaneTurns.{submit_in, IsSimpleTurn};
 ghost use Rattle.mp_run.specs.Sound.{IsSound, AreOf, AreThere};
 ghost use Rattle.mp_run.specs.World.{IsWorld};
 
-use crate::aloft::Aloft;
 use crate::engine::Engine;
 use crate::halt::Halt;
 use crate::turns::LaneTurn;
 use mp_change::log::log_op;
+use mp_flights::aloft::Aloft;
 use mp_page::laws::stated_state_is_in_range;
 use mp_page::{Page, PageError, read_page};
 use mp_record::event::{Event, Said};

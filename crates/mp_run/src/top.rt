@@ -4,7 +4,7 @@ ghost use Rattle.std.specs.Prelude.{◌≡◌, ◌≢◌, ◌↔◌, ℕ, None, 
 ghost use Rattle.std.specs.Io.KnownBytes.{Keeps, Appends};
 ghost use Rattle.mp_io.specs.Causes.{Rose};
 ghost use Rattle.mp_io.specs.Files.{Files};
-ghost use Rattle.mp_run.specs.Accepted.{Accepts, IsDone, IsUnlessFree};
+ghost use Rattle.mp_run.specs.Accepted.{Accepts, IsDone, IsUnlessFree, Spends};
 ghost use Rattle.mp_run.specs.Forms.{form_of};
 ghost use Rattle.mp_run.specs.Outcome.{outcome, own_text, Answers, BeforeFault};
 ghost use Rattle.mp_run.specs.Outside.{files_of, Reads, Fails, Puts};
@@ -85,6 +85,11 @@ pub fn top_plain<F: Folder, K: Sink>(
     // A file is too long exactly where it has more bytes than a file may have, and the files before it were read.
     ensures too_long { (files : Files) (i : ℕ) → F.files folder.old ≡ Some files → result ≡ Status.TooLong i → IsTooLong files (form_of (map string_bytes words.now)) i }
     ensures long_is_refused { (files : Files) (i : ℕ) → F.files folder.old ≡ Some files → IsTooLong files (form_of (map string_bytes words.now)) i → IsUnlessFree (Status.TooLong i) result }
+
+    // A lane is spent exactly where the accepted files' run, with 2,097,152 units for each lane and for the drain, says so,
+    // and it is the least.
+    ensures spent { (files : Files) (lane : ℕ) → F.files folder.old ≡ Some files → result ≡ Status.Spent lane → Spends files (form_of (map string_bytes words.now)) lane }
+    ensures spent_is_refused { (files : Files) (lane : ℕ) → F.files folder.old ≡ Some files → Spends files (form_of (map string_bytes words.now)) lane → IsUnlessFree (Status.Spent lane) result }
 
     // With another status nothing was written.
     ensures silent { result ≢ Status.Ok → result ≢ Status.WriteFault → Keeps (K.taken out.old) (K.taken out.new) }

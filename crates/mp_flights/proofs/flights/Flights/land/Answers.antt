@@ -3,9 +3,9 @@ use Rattle.std.specs.Option.{option_to_list}
 use Rattle.std.proofs.lemmas.List.{nil_from_length}
 use Rattle.mp_words.specs.declared.flight.Flight.{Flight}
 use Rattle.mp_legal.specs.PlainLine.{flights_with}
-use Rattle.mp_run.specs.Flying.{flying, flight_at}
-use Rattle.mp_run.proofs.Indexed.{finds, lands, placed_none, none_with, without_none, flies_within, lands-length}
-use Rattle.mp_run.proofs.flights.Flights.land.Goals as goal
+use Rattle.mp_flights.specs.Flying.{flying, flight_at}
+use Rattle.mp_flights.proofs.Indexed.{finds, lands, placed_none, none_with, without_none, flies_within, lands-length}
+use Rattle.mp_flights.proofs.flights.Flights.land.Goals as goal
 
 pub returns-in-None : goal.returns-in-None
 returns-in-None c =

@@ -1,9 +1,9 @@
 use Rattle.std.proofs.Common.{ap, ◌∙◌, arith}
 use Rattle.std.specs.Option.{option_to_list}
 use Rattle.mp_legal.specs.PlainLine.{flights_with}
-use Rattle.mp_run.specs.Flying.{flight_at}
-use Rattle.mp_run.proofs.Indexed.{finds}
-use Rattle.mp_run.proofs.flights.Flights.find.Goals as goal
+use Rattle.mp_flights.specs.Flying.{flight_at}
+use Rattle.mp_flights.proofs.Indexed.{finds}
+use Rattle.mp_flights.proofs.flights.Flights.find.Goals as goal
 
 pub returns : goal.returns
 returns c =

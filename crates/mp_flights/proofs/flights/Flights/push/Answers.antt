@@ -3,10 +3,10 @@ use Rattle.std.specs.Prelude.{slice_index}
 use Rattle.std.proofs.lemmas.List.{length-append}
 use Rattle.mp_words.specs.declared.flight.Flight.{Flight}
 use Rattle.mp_legal.specs.Numbers.{has_flight}
-use Rattle.mp_run.specs.Indexed.{ArePlaced}
-use Rattle.mp_run.specs.Flying.{flying}
-use Rattle.mp_run.proofs.Indexed.{placed_same, placed_put, placed_more, flying-append, flying-length-le}
-use Rattle.mp_run.proofs.flights.Flights.push.Goals as goal
+use Rattle.mp_flights.specs.Indexed.{ArePlaced}
+use Rattle.mp_flights.specs.Flying.{flying}
+use Rattle.mp_flights.proofs.Indexed.{placed_same, placed_put, placed_more, flying-append, flying-length-le}
+use Rattle.mp_flights.proofs.flights.Flights.push.Goals as goal
 
 pub overflow_add-self : goal.overflow_add-self
 overflow_add-self c = omega (arith, c.self.invariant.1, flying-length-le c.self.inside.sent.items)

@@ -4,10 +4,10 @@ ghost use Rattle.std.specs.Prelude.{◌≡◌, ◌==◌, ◌++◌, ◌∷◌, []
 ghost use Rattle.std.specs.Option.{option_to_list};
 ghost use Rattle.mp_legal.specs.Numbers.{has_flight};
 ghost use Rattle.mp_legal.specs.PlainLine.{flights_with};
-ghost use Rattle.mp_run.specs.Flying.{flying, flight_at};
+ghost use Rattle.mp_flights.specs.Flying.{flying, flight_at};
 
 use crate::aloft::Aloft;
-use crate::halt::Halt;
+use crate::error::FlightsError;
 use crate::index::Index;
 use mp_words::numbers::ReqId;
 use std::alloc::Global;
@@ -26,8 +26,8 @@ pub struct Flights {
 impl Model for Flights {
     ghost use Rattle.std.specs.Prelude.{◌≡◌, List, length};
     ghost use Rattle.mp_words.specs.declared.flight.Flight.{Flight};
-    ghost use Rattle.mp_run.specs.Flying.{flying};
-    ghost use Rattle.mp_run.specs.Indexed.{ArePlaced};
+    ghost use Rattle.mp_flights.specs.Flying.{flying};
+    ghost use Rattle.mp_flights.specs.Indexed.{ArePlaced};
 
     ghost Value = { List Flight };
 
@@ -53,10 +53,10 @@ impl Flights {
     /// # Errors
     ///
     /// `NoMemory` where memory runs out.
-    pub fn push(&mut self, flight: Aloft) -> Result<(), Halt>
+    pub fn push(&mut self, flight: Aloft) -> Result<(), FlightsError>
         requires fresh { has_flight flight.req self.old ≡ false }
         ensures added { OnOk result (self.new ≡ self.old ++ flight ∷ []) }
-        ensures cause { IfErr result (λ halt. halt ≡ Halt.NoMemory) }
+        ensures cause { IfErr result (λ why. why ≡ FlightsError.NoMemory) }
     {
         self.sent.reserve(1)?;
         self.index.reserve()?;
@@ -95,9 +95,9 @@ impl Flights {
     /// # Errors
     ///
     /// `NoMemory` where memory runs out.
-    pub fn all(&self, alloc: Global) -> Result<Vec<Aloft>, Halt>
+    pub fn all(&self, alloc: Global) -> Result<Vec<Aloft>, FlightsError>
         ensures all { IfOk result (λ all. all.items ≡ self.now) }
-        ensures cause { IfErr result (λ halt. halt ≡ Halt.NoMemory) }
+        ensures cause { IfErr result (λ why. why ≡ FlightsError.NoMemory) }
     {
         all_of(alloc, &self.sent)
     }
@@ -120,9 +120,9 @@ fn flight_at(sent: &[Option<Aloft>], place: usize, req: ReqId) -> Option<Aloft>
 }
 
 /// The flights that are there.
-fn all_of(alloc: Global, sent: &[Option<Aloft>]) -> Result<Vec<Aloft>, Halt>
+fn all_of(alloc: Global, sent: &[Option<Aloft>]) -> Result<Vec<Aloft>, FlightsError>
     ensures all { IfOk result (λ all. all.items ≡ flying sent.now) }
-    ensures cause { IfErr result (λ halt. halt ≡ Halt.NoMemory) }
+    ensures cause { IfErr result (λ why. why ≡ FlightsError.NoMemory) }
 {
     let mut all = Vec::new(alloc);
     for place in sent {

@@ -2,8 +2,8 @@ use Rattle.std.proofs.Common.{◌≡◌, ◌++◌, ◌-◌, ◌≤◌, ℕ, List
 use Rattle.std.specs.Prelude.{slice_index}
 use Rattle.std.specs.Result.{is_ok}
 use Rattle.std.proofs.lemmas.List.{take_all}
-use Rattle.mp_run.proofs.Indexed.{filled}
-use Rattle.mp_run.proofs.index.Index.reserve.Goals as goal
+use Rattle.mp_flights.proofs.Indexed.{filled}
+use Rattle.mp_flights.proofs.index.Index.reserve.Goals as goal
 
 -- whether it was filled up or not
 either : (done : Bool) (old new : List ℕ) (more number : ℕ) → length old ≤ 65536 → new ≡ cond done (take 65536 old ++ replicate more 0) old → slice_index new number ≡ slice_index old number

@@ -2,7 +2,7 @@
 
 ghost use Rattle.std.specs.Prelude.{◌≡◌, ◌≤◌, ◌==◌, ℕ, [], OnOk, IfErr, length, slice_index, if◌then◌else◌};
 
-use crate::halt::Halt;
+use crate::error::FlightsError;
 use mp_words::numbers::ReqId;
 use std::alloc::Global;
 use std::marker::Model;
@@ -51,10 +51,10 @@ impl Index {
     /// # Errors
     ///
     /// `NoMemory` where memory runs out.
-    pub fn reserve(&mut self) -> Result<(), Halt>
+    pub fn reserve(&mut self) -> Result<(), FlightsError>
         ensures room { OnOk result (65536 ≤ length self.new) }
         ensures same { (number : ℕ) → slice_index self.new number ≡ slice_index self.old number }
-        ensures cause { IfErr result (λ halt. halt ≡ Halt.NoMemory) }
+        ensures cause { IfErr result (λ why. why ≡ FlightsError.NoMemory) }
     {
         self.places.resize(NUMBERS, 0)?;
         Ok(())

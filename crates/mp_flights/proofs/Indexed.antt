@@ -1,14 +1,17 @@
 -- What an index finds.
-use Rattle.std.proofs.Common.{◌≡◌, ℕ, zero, suc, ◌+◌, ◌<◌, ◌≤◌, false, not, ◌==◌, List, [], ◌∷◌, ◌++◌, inl, inr, filter, length, replicate, get_or, set, Option, Some, None, refl, sym, ap, ◌∙◌, cond, arith}
+use Rattle.std.proofs.Common.{◌≡◌, ℕ, zero, suc, ◌+◌, ◌<◌, ◌≤◌, Bool, true, false, not, ◌||◌, ◌==◌, List, [], ◌∷◌, ◌++◌, inl, inr, filter, length, replicate, get_or, set, Option, Some, None, refl, sym, ap, ◌∙◌, cond, arith}
 use Rattle.std.specs.Prelude.{slice_index}
 use Rattle.std.specs.Option.{option_to_list}
 use Rattle.std.proofs.lemmas.Bool.{cases_Bool, eqb-true}
 use Rattle.mp_words.specs.declared.flight.Flight.{Flight}
 use Rattle.mp_legal.specs.PlainLine.{flights_with}
 use Rattle.mp_legal.specs.Numbers.{has_flight}
-use Rattle.mp_run.specs.Indexed.{ArePlaced}
-use Rattle.mp_run.specs.Flying.{flying, flight_of}
-use Rattle.mp_run.proofs.ByNumber.{or_false}
+use Rattle.mp_flights.specs.Indexed.{ArePlaced}
+use Rattle.mp_flights.specs.Flying.{flying, flight_of}
+
+pub or_false : (a b : Bool) → (a || b) ≡ false → (a ≡ false) × (b ≡ false)
+or_false true b e = absurd cc
+or_false false b e = (refl, e)
 
 -- no flight from a place on is of a number of an earlier place
 pub none_flies : (index : List ℕ) (place req : ℕ) (sent : List (Option Flight)) → ArePlaced index place sent → slice_index index req < place → has_flight req (flying sent) ≡ false

@@ -1,10 +1,10 @@
 use Rattle.std.proofs.Common.{◌≡◌, ◌+◌, ◌++◌, ◌∷◌, [], Option, Some, None, take, ap, sym, refl, ◌∙◌, append-nil}
 use Rattle.std.proofs.lemmas.List.{take_more}
 use Rattle.mp_words.specs.declared.flight.Flight.{Flight}
-use Rattle.mp_run.specs.Flying.{flying}
-use Rattle.mp_run.proofs.Indexed.{flying-append}
-use Rattle.mp_run.proofs.flights.all_of.Goals as goal
-use Rattle.mp_run.proofs.flights.all_of.Goals.{in-Some+in_ok-push, in_default}
+use Rattle.mp_flights.specs.Flying.{flying}
+use Rattle.mp_flights.proofs.Indexed.{flying-append}
+use Rattle.mp_flights.proofs.flights.all_of.Goals as goal
+use Rattle.mp_flights.proofs.flights.all_of.Goals.{in-Some+in_ok-push, in_default}
 
 -- nothing is there but where a flight is
 nothing : (o : Option Flight) → ((f : Flight) → o ≡ Some f → ⊥) → flying (o ∷ []) ≡ []
