@@ -26,7 +26,7 @@ any_append p (x ∷ ls) l = elim (cases_Bool (p x)) [ inl e ↦ rw e refl | inr 
 pub begun_append : (ls : List (List ℕ)) (l : List ℕ) → have_begun (ls ++ l ∷ []) ≡ (have_begun ls || begins_lane (shape_of l))
 begun_append ls l = any_append (λ x. begins_lane (shape_of x)) ls l
 
-submits_append : (nodes : ℕ) (ls : List (List ℕ)) (l : List ℕ)
+pub submits_append : (nodes : ℕ) (ls : List (List ℕ)) (l : List ℕ)
     → each_of (right_submit nodes) (in_lanes (ls ++ l ∷ [])) ≡ each_of (right_submit nodes) (in_lanes ls) ++ option_to_list (submit_in nodes (have_begun ls) (shape_of l))
 submits_append nodes [] l = elim (cases_Bool (begins_lane (shape_of l))) [ inl e ↦ rw e refl | inr e ↦ rw e refl ]
 submits_append nodes (x ∷ ls) l = elim (cases_Bool (begins_lane (shape_of x))) [
@@ -46,7 +46,7 @@ pub marked_start : (nodes : ℕ) (bytes submits : List ℕ) → submits ≡ [] �
 marked_start nodes bytes submits none = record { done = []; parts = refl; begins = refl; same = λ n. rw none refl }
 
 -- what is put behind lists with the same numbers
-has_both : (xs ys : List ℕ) (n : ℕ) → has (xs ++ ys) n ≡ (has xs n || has ys n)
+pub has_both : (xs ys : List ℕ) (n : ℕ) → has (xs ++ ys) n ≡ (has xs n || has ys n)
 has_both [] ys n = refl
 has_both (x ∷ xs) ys n = elim (cases_Bool (x == n)) [ inl e ↦ rw e refl | inr e ↦ rw e (has_both xs ys n) ]
 

@@ -2,6 +2,7 @@ pub mod Pieces
 pub mod Entries
 pub mod Ordered
 pub mod Lanes
+pub mod Among
 pub mod Steps
 pub mod ReadFacts
 pub mod Holding

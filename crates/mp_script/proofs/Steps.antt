@@ -1,9 +1,9 @@
 -- A line more of a text.
 use Rattle.std.proofs.Common.{inl, inr, ◌≡◌, ℕ, suc, ◌+◌, ◌<◌, Bool, true, false, List, [], ◌∷◌, ◌++◌, length, take, Option, Some, None, refl, sym, ap, ◌∙◌, append_assoc, zero-add, arith}
-use Rattle.std.specs.Prelude.{◌||◌, ◌==◌, if◌then◌else◌, option_map}
+use Rattle.std.specs.Prelude.{◌&&◌, ◌||◌, ◌==◌, if◌then◌else◌, option_map, unwrap_or, IfSome}
 use Rattle.std.specs.Option.{option_to_list}
 use Rattle.std.specs.List.{list_any, last_or}
-use Rattle.std.proofs.lemmas.Bool.{cases_Bool}
+use Rattle.std.proofs.lemmas.Bool.{cases_Bool, and_parts}
 use Rattle.std.proofs.lemmas.List.{append-nil, length-append}
 use Rattle.mp_checks.specs.Checks.{first_fault, each_from, or_else}
 use Rattle.mp_checks.specs.Marks.{HaveSame}
@@ -14,8 +14,8 @@ use Rattle.mp_topology.specs.declared.topology.Controller.{Controller}
 use Rattle.mp_script.specs.Splitting.{lines_of, value_of}
 use Rattle.mp_script.specs.Wording.{is_submitted}
 use Rattle.mp_script.specs.Shape.{Shape, keeper, finish, shape_of}
-use Rattle.mp_script.specs.Before.{Before, begins_lane, is_keeper, lanes_in, before, each_of, submitted_of, answer_of, submitted_in}
-use Rattle.mp_script.specs.Lines.{shape_checks, line_checks, is_built, built_checks}
+use Rattle.mp_script.specs.Before.{Before, begins_lane, is_keeper, lanes_in, before, each_of, submitted_of, answer_of, in_lanes, right_submit, submitted_in}
+use Rattle.mp_script.specs.Lines.{shape_checks, line_checks, is_built, built_checks, are_built}
 use Rattle.mp_script.specs.Plans.{numbered, body, plans}
 use Rattle.mp_script.specs.Building.{IsEarlier, noted, with_lines, put}
 use Rattle.mp_script.specs.declared.errors.ScriptError.{ScriptError}
@@ -25,6 +25,7 @@ use Rattle.mp_script.specs.declared.script.LanePlan.{LanePlan}
 use Rattle.mp_script.specs.declared.building.Building.{Building}
 use Rattle.mp_script.specs.declared.progress.Progress.{Progress}
 use Rattle.mp_script.proofs.Lanes.{each_of_append, parts_more, no_lines}
+use Rattle.mp_script.proofs.Among.{own_more, earlier_among, passes_among, known_among}
 
 -- ---- what stands before a line
 
@@ -90,6 +91,7 @@ pub record IsAt (t : Topology) (pages : ℕ) (bytes rest : List ℕ) (r : Progre
   pub pass : first_fault (each_from (line_checks t pages (lines_of bytes)) 0 done) ≡ None
   pub known : IsEarlier r.earlier (before done)
   pub lanes : lanes_from t.controllers r.building (r.number + 1) (lines_of rest) ≡ plans t.controllers 1 (lines_of bytes)
+  pub own : each_of submitted_of done ≡ each_of (right_submit t.near.nodes) (in_lanes done)
 
 take_done : (done : List (List ℕ)) (l : List ℕ) (rest : List (List ℕ)) → take (length done) (done ++ l ∷ rest) ≡ done
 take_done [] l rest = refl
@@ -137,15 +139,19 @@ at_stops t pages bytes rest line after submits r fault at cut same refused =
     rw (checks_here t pages at.done line (lines_of after) (lines_of bytes) parts, ← at.number) (ap first_fault (sym (same_checks t pages submits (submitted_in t.near.nodes (lines_of bytes)) (before at.done) (r.number + 1) (shape_of line) same)) ∙ refused (before at.done) at.known) in
     stops_here (line_checks t pages (lines_of bytes)) at.done line (lines_of after) (lines_of bytes) fault parts at.pass here
 
-pub at_more : (t : Topology) (pages : ℕ) (bytes rest line after submits : List ℕ) (r next : Progress) → IsAt t pages bytes rest r → lines_of rest ≡ line ∷ lines_of after
-    → HaveSame submits (submitted_in t.near.nodes (lines_of bytes))
-    → ((b : Before) → IsEarlier r.earlier b → first_fault (shape_checks t pages submits b (r.number + 1) (shape_of line)) ≡ None)
+pub at_more : (t : Topology) (pages : ℕ) (bytes rest line after : List ℕ) (o : Option (List ℕ)) (r next : Progress) → IsAt t pages bytes rest r → lines_of rest ≡ line ∷ lines_of after
+    → IfSome o (λ all. HaveSame all (submitted_in t.near.nodes (lines_of bytes)))
+    → ((b : Before) → IsEarlier r.earlier b → first_fault (shape_checks t pages (unwrap_or o r.earlier.submitted) b (r.number + 1) (shape_of line)) ≡ None)
     → ((b : Before) → IsEarlier r.earlier b → IsEarlier next.earlier (noted b (shape_of line)))
     → next.building ≡ put t.controllers r.building (r.number + 1) (shape_of line) → next.number ≡ r.number + 1 → IsAt t pages bytes after next
-at_more t pages bytes rest line after submits r next at cut same passed known building number =
+at_more t pages bytes rest line after o r next at cut all passed known building number =
+    let full = submitted_in t.near.nodes (lines_of bytes) in
+    let submits = unwrap_or o r.earlier.submitted in
+    let among = known_among o r.earlier.submitted full all (earlier_among t.near.nodes bytes rest at.done r.earlier at.parts at.own at.known) in
+    let pass = passed (before at.done) at.known in
     let parts = lines_parts at.done line rest after bytes cut at.parts in
     let here : first_fault (line_checks t pages (lines_of bytes) (length at.done) line) ≡ None =
-    rw (checks_here t pages at.done line (lines_of after) (lines_of bytes) parts, ← at.number) (ap first_fault (sym (same_checks t pages submits (submitted_in t.near.nodes (lines_of bytes)) (before at.done) (r.number + 1) (shape_of line) same)) ∙ passed (before at.done) at.known) in
+    rw (checks_here t pages at.done line (lines_of after) (lines_of bytes) parts, ← at.number) (passes_among t pages submits full (before at.done) (r.number + 1) (shape_of line) among pass) in
     record {
       done = at.done ++ line ∷ [];
       parts = parts_more at.done line rest after bytes cut at.parts;
@@ -153,6 +159,7 @@ at_more t pages bytes rest line after submits r next at cut same passed known bu
       pass = goes_on_here (line_checks t pages (lines_of bytes)) at.done line at.pass here;
       known = rw (before_append at.done line) (known (before at.done) at.known);
       lanes = rw (building, number) (lanes_step t.controllers r.building (r.number + 1) line (lines_of after) ∙ ap (lanes_from t.controllers r.building (r.number + 1)) (sym cut) ∙ at.lanes);
+      own = own_more t pages submits at.done (r.number + 1) line at.own pass;
     }
 
 pub at_start : (t : Topology) (pages : ℕ) (bytes : List ℕ) (r : Progress) → r.number ≡ 0 → IsEarlier r.earlier (before []) → r.building.done ≡ [] → r.building.current ≡ None → IsAt t pages bytes bytes r
@@ -163,6 +170,7 @@ at_start t pages bytes r number known none idle = record {
   pass = refl;
   known = known;
   lanes = rw (number, none, idle) refl;
+  own = refl;
 }
 
 -- at the end of the text
@@ -219,3 +227,19 @@ built_stops n line built s e f g = rw (← f, ← e, g) refl
 pub built_passes : (n : ℕ) (line : List ℕ) (built : Bool) (s : Shape) → built ≡ is_built s → s ≡ shape_of line → built ≡ true → first_fault (built_checks n line) ≡ None
 unfolding built_checks
 built_passes n line built s e f g = rw (← f, ← e, g) refl
+
+-- whether the lines can be run, one line on
+pub built_more : (bytes rest line after : List ℕ) (so_far now : Bool) → are_built (lines_of bytes) ≡ (so_far && are_built (lines_of rest)) → lines_of rest ≡ line ∷ lines_of after → now ≡ (so_far && is_built (shape_of line)) → are_built (lines_of bytes) ≡ (now && are_built (lines_of after))
+built_more bytes rest line after true now h e g = rw (h, e, g) refl
+built_more bytes rest line after false now h e g = rw (h, g) refl
+
+pub built_end : (bytes rest : List ℕ) (so_far : Bool) → are_built (lines_of bytes) ≡ (so_far && are_built (lines_of rest)) → true ≡ (length rest == 0) → so_far ≡ are_built (lines_of bytes)
+built_end bytes rest true h over = rw (h, no_lines rest over) refl
+built_end bytes rest false h over = rw h refl
+
+pub built_all : (i : ℕ) (ls : List (List ℕ)) → are_built ls ≡ true → first_fault (each_from built_checks i ls) ≡ None
+unfolding built_checks
+built_all i [] h = refl
+built_all i (l ∷ ls) h =
+    let p = and_parts (is_built (shape_of l)) (are_built ls) h in
+    rw p.0 (built_all (suc i) ls p.1)

@@ -1,5 +1,6 @@
 -- The checks of each line.
 use Rattle.std.specs.Prelude.{ℕ, ◌+◌, Bool, true, false, ◌&&◌, not, nat_le, ◌==◌, List, [], ◌∷◌, take}
+use Rattle.std.specs.List.{list_all}
 use Rattle.mp_topology.specs.declared.topology.Topology.{Topology}
 use Rattle.mp_script.specs.Splitting.{is_script_byte}
 use Rattle.mp_script.specs.Shape.{Shape, skipped, unknown, answer, lane, keeper, add, remove, reap, policy, shape_of}
@@ -59,3 +60,7 @@ is_built _ = true
 -- the check of a line that comes last, behind those of the whole text: it is of a kind that can be run so far
 unfoldable pub built_checks : ℕ → List ℕ → List (Bool × ScriptError)
 built_checks i l = (is_built (shape_of l), errors.NotBuilt (i + 1)) ∷ []
+
+-- each of these lines is of such a kind
+abbrev pub are_built : List (List ℕ) → Bool
+are_built lines = list_all (λ l. is_built (shape_of l)) lines

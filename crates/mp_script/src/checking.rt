@@ -1,6 +1,6 @@
 //! The checks of one line.
 
-ghost use Rattle.std.specs.Prelude.{◌≡◌, true, false, OnOk};
+ghost use Rattle.std.specs.Prelude.{◌≡◌, true, false, unwrap_or, OnOk};
 ghost use Rattle.mp_checks.specs.Checks.{Reads};
 ghost use Rattle.mp_script.specs.Shape.{shape};
 ghost use Rattle.mp_script.specs.Wording.{has_numbers, is_named};
@@ -51,7 +51,7 @@ pub(crate) fn check_line<'a>(
     number: u32,
     line: LineShape<'a>,
 ) -> Result<(), ScriptError>
-    ensures read { (b : Before) → IsEarlier earlier.now b → Reads ScriptError.NoMemory result (shape_checks setting.now.topology.now setting.now.pages setting.now.submits b number (shape line.entry)) tt }
+    ensures read { (b : Before) → IsEarlier earlier.now b → Reads ScriptError.NoMemory result (shape_checks setting.now.topology.now setting.now.pages (unwrap_or setting.now.submits earlier.now.submitted) b number (shape line.entry)) tt }
     ensures within { OnOk result (is_within number earlier.now.lanes (shape line.entry) ≡ true) }
     ensures numbers { OnOk result (has_numbers setting.now.topology.now.near.nodes (shape line.entry) ≡ true) }
     ensures named { OnOk result (is_named setting.now.topology.now.controllers setting.now.pages (shape line.entry) ≡ true) }
@@ -71,7 +71,7 @@ pub(crate) fn check_line<'a>(
         return Err(ScriptError::Number(number));
     }
     let named = is_named(setting, line);
-    if !(named && is_submitted(setting, line)) {
+    if !(named && is_submitted(setting, &earlier.submitted, line)) {
         return Err(ScriptError::Unknown(number));
     }
     if repeats(earlier, nodes, line) {

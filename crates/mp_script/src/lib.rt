@@ -3,6 +3,7 @@
 
 mod answered;
 mod building;
+mod built;
 mod checking;
 mod earlier;
 pub mod errors;

@@ -1,22 +1,19 @@
 //! The reader of scripts.
 
-ghost use Rattle.std.specs.Prelude.{◌≡◌, ◌≤◌, None, Some, IfOk, IfErr, length};
+ghost use Rattle.std.specs.Prelude.{◌≡◌, ◌≤◌, None, Some, IfOk, IfErr, OnOk, length};
 ghost use Rattle.mp_checks.specs.Checks.{Reads, Answers, first_fault, each_from};
-ghost use Rattle.mp_checks.specs.Marks.{HaveSame};
 ghost use Rattle.mp_script.specs.Splitting.{is_script_byte, lines_of};
-ghost use Rattle.mp_script.specs.Shape.{shape};
-ghost use Rattle.mp_script.specs.Before.{submitted_in};
-ghost use Rattle.mp_script.specs.Lines.{byte_checks, is_built, built_checks};
+ghost use Rattle.mp_script.specs.Lines.{byte_checks, line_checks, are_built};
 ghost use Rattle.mp_script.specs.Script.{checks, script_of, script_in, IsLeastFault};
 ghost use Rattle.mp_script.specs.Facts.{IsScript, IsOver, IsBuilt};
 
+use crate::built::check_built_unless;
 use crate::errors::ScriptError;
 use crate::places::places_of;
 use crate::progress::script_in;
+use crate::requests::Requests;
 use crate::script::Script;
 use crate::setting::Setting;
-use crate::shapes::{LineShape, shape_of};
-use crate::splitting::split_line;
 use crate::submits::submitted_in;
 use mp_topology::topology::Topology;
 use std::alloc::{AllocError, Global};
@@ -40,52 +37,64 @@ fn check_bytes(bytes: &[u8]) -> Result<(), ScriptError>
     Ok(())
 }
 
-fn is_built(line: LineShape<'_>) -> bool
-    ensures { result ≡ is_built (shape line.entry) }
-{
-    !matches!(
-        line,
-        LineShape::Add(..) | LineShape::Remove(_) | LineShape::Reap
-    )
-}
-
-/// Checks that each line can be run so far.
-fn check_built(bytes: &[u8]) -> Result<(), ScriptError>
-    requires { length (lines_of bytes.now) ≤ 65536 }
-    ensures { Reads ScriptError.NoMemory result (each_from built_checks 0 (lines_of bytes.now)) tt }
-{
-    let mut number = 0u32;
-    let mut rest = bytes;
-    while !rest.is_empty() {
-        let (line, after) = split_line(rest);
-        number += 1;
-        if !is_built(shape_of(line)) {
-            return Err(ScriptError::NotBuilt(number));
-        }
-        rest = after;
-    }
-    Ok(())
-}
-
 /// What a text is read over.
 fn setting_of<'a>(
     alloc: Global,
-    bytes: &'a [u8],
     topology: &'a Topology,
     pages: usize,
+    submits: Option<Requests>,
 ) -> Result<Setting<'a>, AllocError>
     requires controllers { length topology.now.controllers ≤ 64 }
     requires nodes { topology.now.near.nodes ≤ 8 }
     ensures topology { IfOk result (λ s. s.topology.now ≡ topology.now) }
     ensures pages { IfOk result (λ s. s.pages ≡ pages) }
-    ensures submits { IfOk result (λ s. HaveSame s.submits (submitted_in topology.now.near.nodes (lines_of bytes.now))) }
+    ensures submits { IfOk result (λ s. s.submits ≡ submits) }
 {
     Ok(Setting {
         topology,
         places: places_of(alloc, topology.controllers.as_slice())?,
         pages,
-        submits: submitted_in(alloc, u32::from(topology.near.nodes), bytes)?,
+        submits,
     })
+}
+
+/// The script of the lines of a text where each line that finishes a request stands behind the one that submits it, and
+/// whether each line can be run so far. A refusal says nothing.
+fn script_at_once<'a>(
+    alloc: Global,
+    bytes: &'a [u8],
+    topology: &'a Topology,
+    pages: usize,
+) -> Result<(Script, bool), ScriptError>
+    requires controllers { length topology.now.controllers ≤ 64 }
+    requires nodes { topology.now.near.nodes ≤ 8 }
+    ensures few { OnOk result (length (lines_of bytes.now) ≤ 65536) }
+    ensures passed { OnOk result (first_fault (each_from (line_checks topology.now pages (lines_of bytes.now)) 0 (lines_of bytes.now)) ≡ None) }
+    ensures value { IfOk result (λ p. p ≡ (script_of topology.now.controllers (lines_of bytes.now), are_built (lines_of bytes.now))) }
+{
+    let setting = setting_of(alloc, topology, pages, None)?;
+    script_in(alloc, &setting, bytes)
+}
+
+/// The script of the lines of a text, and whether each line can be run so far. What the whole text submits is collected
+/// only where some line is refused without it.
+fn script_of_lines<'a>(
+    alloc: Global,
+    bytes: &'a [u8],
+    topology: &'a Topology,
+    pages: usize,
+) -> Result<(Script, bool), ScriptError>
+    requires controllers { length topology.now.controllers ≤ 64 }
+    requires nodes { topology.now.near.nodes ≤ 8 }
+    ensures few { OnOk result (length (lines_of bytes.now) ≤ 65536) }
+    ensures read { Reads ScriptError.NoMemory result (each_from (line_checks topology.now pages (lines_of bytes.now)) 0 (lines_of bytes.now)) (script_of topology.now.controllers (lines_of bytes.now), are_built (lines_of bytes.now)) }
+{
+    if let Ok(read) = script_at_once(alloc, bytes, topology, pages) {
+        return Ok(read);
+    }
+    let submits = submitted_in(alloc, u32::from(topology.near.nodes), bytes)?;
+    let setting = setting_of(alloc, topology, pages, Some(submits))?;
+    script_in(alloc, &setting, bytes)
 }
 
 /// The script of a text, where it passes every check.
@@ -102,9 +111,8 @@ fn checked_script<'a>(
     ensures { Reads ScriptError.NoMemory result (checks topology.now pages bytes.now) (script_of topology.now.controllers (lines_of bytes.now)) }
 {
     check_bytes(bytes)?;
-    let setting = setting_of(alloc, bytes, topology, pages)?;
-    let script = script_in(alloc, &setting, bytes)?;
-    check_built(bytes)?;
+    let (script, built) = script_of_lines(alloc, bytes, topology, pages)?;
+    check_built_unless(bytes, built)?;
     Ok(script)
 }
 

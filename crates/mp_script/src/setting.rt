@@ -1,23 +1,24 @@
 //! What a script is read over.
 
-ghost use Rattle.std.specs.Prelude.{◌≡◌, ◌≤◌, length, slice_get};
+ghost use Rattle.std.specs.Prelude.{◌≡◌, ◌≤◌, length, slice_get, unwrap_or};
+ghost use Rattle.mp_checks.specs.Marks.{has};
 ghost use Rattle.mp_script.specs.Wording.{place_in, reports_ana, has_ana, is_there, has_box};
 ghost use Rattle.mp_script.specs.Places.{HasPlaces};
 
 use crate::requests::Requests;
 use crate::splitting::value_of;
 use mp_topology::topology::{Controller, Topology};
-use mp_words::numbers::Ctrl;
+use mp_words::numbers::{Ctrl, ReqId};
 use std::collections::BTreeMap;
 
 /// What a script is read over: the topology, the place of each controller by its name, how many boxes there are, and
-/// the requests that some line of the text submits.
+/// the requests that some line of the text submits, where they are known.
 #[derive(Drop)]
 pub(crate) struct Setting<'a> {
     pub(crate) topology: &'a Topology,
     pub(crate) places: BTreeMap<&'a [u8], Ctrl>,
     pub(crate) pages: usize,
-    pub(crate) submits: Requests,
+    pub(crate) submits: Option<Requests>,
     ghost few: { length topology.now.controllers ≤ 64 },
     ghost nodes: { topology.now.near.nodes ≤ 8 },
     ghost found: { HasPlaces topology.now.controllers places },
@@ -58,6 +59,16 @@ impl<'a> Setting<'a> {
         match self.find(word) {
             Some(ctrl) => reports_ana(self.topology.controllers.as_slice(), ctrl.get() as usize),
             None => false,
+        }
+    }
+
+    /// Whether some line of the text submits a request: where that isn't known, whether it is one of those so far.
+    pub(crate) fn is_submitted(&self, so_far: &Requests, req: ReqId) -> bool
+        ensures { result ≡ has (unwrap_or self.now.submits so_far.now) req }
+    {
+        match &self.submits {
+            Some(all) => all.has(req),
+            None => so_far.has(req),
         }
     }
 

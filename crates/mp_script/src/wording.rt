@@ -1,9 +1,10 @@
 //! Whether the words of a line are numbers and names as they should be.
 
-ghost use Rattle.std.specs.Prelude.{◌≡◌, true};
+ghost use Rattle.std.specs.Prelude.{◌≡◌, true, unwrap_or};
 ghost use Rattle.mp_script.specs.Shape.{shape};
 ghost use Rattle.mp_script.specs.Wording.{is_node, has_numbers, is_named, is_submitted};
 
+use crate::requests::Requests;
 use crate::setting::Setting;
 use crate::shapes::{LineShape, is_word};
 use crate::splitting::{is_in, is_status, request_of, value_of};
@@ -56,14 +57,15 @@ pub(crate) fn is_named<'a>(setting: &Setting<'a>, line: LineShape<'a>) -> bool
     }
 }
 
-/// Whether some line of the text submits the request that a line finishes.
+/// Whether some line of the text submits the request that a line finishes: where that isn't known, whether it is one of
+/// those so far.
 #[tactic(auto, unfolding(crate::specs::Wording::is_submitted, crate::specs::Wording::has_numbers))]
-pub(crate) fn is_submitted(setting: &Setting<'_>, line: LineShape<'_>) -> bool
+pub(crate) fn is_submitted(setting: &Setting<'_>, so_far: &Requests, line: LineShape<'_>) -> bool
     requires { has_numbers setting.now.topology.now.near.nodes (shape line) ≡ true }
-    ensures { result ≡ is_submitted setting.now.submits (shape line.entry) }
+    ensures { result ≡ is_submitted (unwrap_or setting.now.submits so_far.now) (shape line.entry) }
 {
     match line {
-        LineShape::Finish(r) => is_word(r, "all") || setting.submits.has(request_of(r)),
+        LineShape::Finish(r) => is_word(r, "all") || setting.is_submitted(so_far, request_of(r)),
         _ => true,
     }
 }
