@@ -1,8 +1,8 @@
 -- What holds of the lanes of a text whose lines pass the checks.
 use Rattle.std.proofs.Common.{inl, inr, ◌≡◌, ℕ, suc, ◌+◌, ◌≤◌, Bool, true, false, List, [], ◌∷◌, ◌++◌, length, Option, Some, None, refl, sym, ap, ◌∙◌, append_assoc, zero-add, arith}
-use Rattle.std.specs.Prelude.{◌||◌, ◌&&◌, ◌==◌, not, nat_le, if◌then◌else◌, IfSome, is_some, option_map, option_and_then, codes}
+use Rattle.std.specs.Prelude.{◌||◌, ◌&&◌, ◌==◌, not, nat_le, if◌then◌else◌, is_some, option_map, option_and_then, codes}
 use Rattle.std.specs.Option.{option_to_list}
-use Rattle.std.specs.List.{flat_map, AllByRecursion}
+use Rattle.std.specs.List.{flat_map}
 use Rattle.std.proofs.lemmas.Bool.{cases_Bool}
 use Rattle.std.proofs.lemmas.Bool.Decides.{nat_tests}
 use Rattle.std.proofs.lemmas.List.{append-nil, length-append}
@@ -14,16 +14,15 @@ use Rattle.mp_words.specs.declared.row.CState.{CState}
 use Rattle.mp_topology.specs.declared.topology.Topology.{Topology}
 use Rattle.mp_topology.specs.declared.topology.Controller.{Controller}
 use Rattle.mp_script.specs.Splitting.{value_of}
-use Rattle.mp_script.specs.Shape.{Shape, skipped, unknown, answer, lane, keeper, submit, finish, requeue, log, ctrl, anatt, add, remove, reap, policy, shape_of, is_word}
+use Rattle.mp_script.specs.Shape.{Shape, lane, keeper, submit, finish, log, ctrl, anatt, add, remove, policy, shape_of, is_word}
 use Rattle.mp_script.specs.Before.{Before, before, begins_lane, each_of, submitted_of, submitted_in, repeats, lanes_in}
-use Rattle.mp_script.specs.Lines.{line_checks, shape_checks, built_checks, is_built, is_within}
+use Rattle.mp_script.specs.Lines.{line_checks, shape_checks, is_within}
 use Rattle.mp_script.specs.Wording.{place_in}
 use Rattle.mp_script.specs.Plans.{finish_of, page_of, line_of, numbered, body, plans}
 use Rattle.mp_script.specs.Script.{script_of}
 use Rattle.mp_script.specs.Building.{noted}
 use Rattle.mp_script.specs.Distinct.{IsDistinct}
-use Rattle.mp_script.specs.Facts.{submit_of, submits_of, submits_in, IsScript, IsSimple, AreSimple, IsBuilt}
-use Rattle.mp_script.specs.declared.errors.ScriptError.TheVariants as errors
+use Rattle.mp_script.specs.Facts.{submit_of, submits_of, submits_in, IsScript}
 use Rattle.mp_script.specs.declared.script.Line.{Line}
 use Rattle.mp_script.specs.declared.script.Line.TheVariants as line
 use Rattle.mp_script.specs.declared.script.Numbered1.{Numbered1}
@@ -209,73 +208,3 @@ script_facts t pages lines pass =
       few_lines = omega (arith, lines_count t.controllers 1 lines, f.lines);
       distinct = distinct_behind (submits_of (body t.controllers 1 lines)) (submits_in (plans t.controllers 1 lines)) (rw (submits_all t.controllers 1 lines) f.distinct);
     }
-
--- ---- what can be run so far
-
-false_passes : {E : Type 0} (e : E) (cs : List (Bool × E)) → first_fault ((false, e) ∷ cs) ≡ None → ⊥
-false_passes e cs h = cc
-
-are_built : (n : ℕ) (ls : List (List ℕ)) → first_fault (each_from built_checks n ls) ≡ None → AllByRecursion (λ l. is_built (shape_of l) ≡ true) ls
-unfolding built_checks
-are_built n [] pass = tt
-are_built n (l ∷ ls) pass = elim (cases_Bool (is_built (shape_of l))) [
-  | inl e ↦ (e, are_built (suc n) ls (rw e at pass))
-  | inr e ↦ absurd (false_passes (errors.NotBuilt (n + 1)) (each_from built_checks (suc n) ls) (rw e at pass))
-]
-
-finish_simple : (w : List ℕ) → IsSimple (finish_of w)
-unfolding finish_of
-finish_simple w = elim (cases_Bool (is_word w (codes "all"))) [ inl e ↦ rw e tt | inr e ↦ rw e tt ]
-
--- a line with a number, if there is one
-may_be : (n : ℕ) (o : Option Line) → IfSome o IsSimple → AreSimple (option_to_list (option_map (λ x. record { number = n; line = x }) o))
-may_be n None h = tt
-may_be n (Some x) h = (h, tt)
-
--- a line that is none of the three, whatever its names are
-each_simple : {X : Type 0} (f : X → Line) (o : Option X) → ((x : X) → IsSimple (f x)) → IfSome (option_map f o) IsSimple
-each_simple f None h = tt
-each_simple f (Some x) h = h x
-
-goes_simple : (o : Option ℕ) (state : Option CState) → IfSome (option_and_then (λ c. option_map (line.Ctrl c) state) o) IsSimple
-goes_simple None state = tt
-goes_simple (Some c) state = each_simple (line.Ctrl c) state (λ x. tt)
-
-line_simple : (cs : List Controller) (s : Shape) → is_built s ≡ true → IfSome (line_of cs s) IsSimple
-unfolding line_of
-line_simple cs skipped e = tt
-line_simple cs unknown e = tt
-line_simple cs (answer r a st) e = tt
-line_simple cs lane e = tt
-line_simple cs keeper e = tt
-line_simple cs (submit r k) e = tt
-line_simple cs (finish r) e = finish_simple r
-line_simple cs requeue e = tt
-line_simple cs (log c k) e = each_simple (λ x. line.Log x (value_of k)) (place_in cs c) (λ x. tt)
-line_simple cs (ctrl c s) e = goes_simple (place_in cs c) (cstate_named s)
-line_simple cs (anatt c) e = each_simple line.Anatt (place_in cs c) (λ x. tt)
-line_simple cs (add c k) e = absurd cc
-line_simple cs (remove c) e = absurd cc
-line_simple cs reap e = absurd cc
-line_simple cs (policy p) e = each_simple line.Policy (policy_named p) (λ x. tt)
-
-simple_one : (cs : List Controller) (n : ℕ) (s : Shape) → is_built s ≡ true → AreSimple (numbered cs n s)
-simple_one cs n s e = may_be n (line_of cs s) (line_simple cs s e)
-
-simple_append : (xs ys : List Numbered1) → AreSimple xs → AreSimple ys → AreSimple (xs ++ ys)
-simple_append [] ys p q = q
-simple_append (x ∷ xs) ys p q = (p.0, simple_append xs ys p.1 q)
-
-simple_all : (cs : List Controller) (n : ℕ) (ls : List (List ℕ)) → AllByRecursion (λ l. is_built (shape_of l) ≡ true) ls → AreSimple (body cs n ls) × AllByRecursion (λ (plan : LanePlan). AreSimple plan.lines) (plans cs n ls)
-simple_all cs n [] all = (tt, tt)
-simple_all cs n (l ∷ ls) all =
-    let rest = simple_all cs (n + 1) ls all.1 in
-    elim (cases_Bool (begins_lane (shape_of l))) [
-      | inl e ↦ rw e (tt, (rest.0, rest.1))
-      | inr e ↦ rw e (simple_append (numbered cs n (shape_of l)) (body cs (n + 1) ls) (simple_one cs n (shape_of l) all.0) rest.0, rest.1)
-    ]
-
-pub built_facts : (cs : List Controller) (lines : List (List ℕ)) → first_fault (each_from built_checks 0 lines) ≡ None → IsBuilt (script_of cs lines)
-unfolding script_of
-built_facts cs lines pass =
-    record { simple = (simple_all cs 1 lines (are_built 0 lines pass)).1 }

@@ -1,8 +1,8 @@
 -- A line more of a text.
 use Rattle.std.proofs.Common.{inl, inr, ◌≡◌, ℕ, suc, ◌+◌, ◌<◌, Bool, true, false, List, [], ◌∷◌, ◌++◌, length, take, Option, Some, None, refl, sym, ap, ◌∙◌, append_assoc, zero-add, arith}
-use Rattle.std.specs.Prelude.{◌&&◌, ◌||◌, ◌==◌, if◌then◌else◌, option_map, unwrap_or, IfSome}
+use Rattle.std.specs.Prelude.{◌||◌, ◌==◌, if◌then◌else◌, option_map, unwrap_or, IfSome}
 use Rattle.std.specs.Option.{option_to_list}
-use Rattle.std.specs.List.{list_any, last_or}
+use Rattle.std.specs.List.{list_all, list_any, last_or}
 use Rattle.std.proofs.lemmas.Bool.{cases_Bool, and_parts}
 use Rattle.std.proofs.lemmas.List.{append-nil, length-append}
 use Rattle.mp_checks.specs.Checks.{first_fault, each_from, or_else}
@@ -11,15 +11,14 @@ use Rattle.mp_checks.proofs.CheckLaws.{fault_append, each_append}
 use Rattle.mp_words.specs.Answers.{in_order}
 use Rattle.mp_topology.specs.declared.topology.Topology.{Topology}
 use Rattle.mp_topology.specs.declared.topology.Controller.{Controller}
-use Rattle.mp_script.specs.Splitting.{lines_of, value_of}
+use Rattle.mp_script.specs.Splitting.{is_script_byte, lines_of, value_of}
 use Rattle.mp_script.specs.Wording.{is_submitted}
 use Rattle.mp_script.specs.Shape.{Shape, keeper, finish, shape_of}
 use Rattle.mp_script.specs.Before.{Before, begins_lane, is_keeper, lanes_in, before, each_of, submitted_of, answer_of, in_lanes, right_submit, submitted_in}
-use Rattle.mp_script.specs.Lines.{shape_checks, line_checks, is_built, built_checks, are_built}
+use Rattle.mp_script.specs.Lines.{byte_checks, shape_checks, line_checks}
 use Rattle.mp_script.specs.Plans.{numbered, body, plans}
 use Rattle.mp_script.specs.Building.{IsEarlier, noted, with_lines, put}
 use Rattle.mp_script.specs.declared.errors.ScriptError.{ScriptError}
-use Rattle.mp_script.specs.declared.errors.ScriptError.TheVariants as errors
 use Rattle.mp_script.specs.declared.script.Numbered1.{Numbered1}
 use Rattle.mp_script.specs.declared.script.LanePlan.{LanePlan}
 use Rattle.mp_script.specs.declared.building.Building.{Building}
@@ -219,27 +218,10 @@ passed_fits f bytes rest line after number p cut =
     let parts = lines_parts p.done line rest after bytes cut p.parts in
     omega (arith, p.number, ap length parts, length-append p.done (line ∷ lines_of after))
 
--- the check of a line that can't be run yet, and of one that can
-pub built_stops : (n : ℕ) (line : List ℕ) (built : Bool) (s : Shape) → built ≡ is_built s → s ≡ shape_of line → built ≡ false → first_fault (built_checks n line) ≡ Some (errors.NotBuilt (n + 1))
-unfolding built_checks
-built_stops n line built s e f g = rw (← f, ← e, g) refl
-
-pub built_passes : (n : ℕ) (line : List ℕ) (built : Bool) (s : Shape) → built ≡ is_built s → s ≡ shape_of line → built ≡ true → first_fault (built_checks n line) ≡ None
-unfolding built_checks
-built_passes n line built s e f g = rw (← f, ← e, g) refl
-
--- whether the lines can be run, one line on
-pub built_more : (bytes rest line after : List ℕ) (so_far now : Bool) → are_built (lines_of bytes) ≡ (so_far && are_built (lines_of rest)) → lines_of rest ≡ line ∷ lines_of after → now ≡ (so_far && is_built (shape_of line)) → are_built (lines_of bytes) ≡ (now && are_built (lines_of after))
-built_more bytes rest line after true now h e g = rw (h, e, g) refl
-built_more bytes rest line after false now h e g = rw (h, g) refl
-
-pub built_end : (bytes rest : List ℕ) (so_far : Bool) → are_built (lines_of bytes) ≡ (so_far && are_built (lines_of rest)) → true ≡ (length rest == 0) → so_far ≡ are_built (lines_of bytes)
-built_end bytes rest true h over = rw (h, no_lines rest over) refl
-built_end bytes rest false h over = rw h refl
-
-pub built_all : (i : ℕ) (ls : List (List ℕ)) → are_built ls ≡ true → first_fault (each_from built_checks i ls) ≡ None
-unfolding built_checks
-built_all i [] h = refl
-built_all i (l ∷ ls) h =
-    let p = and_parts (is_built (shape_of l)) (are_built ls) h in
-    rw p.0 (built_all (suc i) ls p.1)
+-- bytes of which each may stand in a script
+pub bytes_all : (i : ℕ) (bs : List ℕ) → list_all is_script_byte bs ≡ true → first_fault (each_from byte_checks i bs) ≡ None
+unfolding byte_checks
+bytes_all i [] h = refl
+bytes_all i (b ∷ bs) h =
+    let p = and_parts (is_script_byte b) (list_all is_script_byte bs) h in
+    rw p.0 (bytes_all (suc i) bs p.1)

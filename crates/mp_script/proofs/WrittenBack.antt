@@ -1,7 +1,7 @@
 -- The canonical text is read as the same script.
-use Rattle.std.proofs.Common.{inl, inr, ◌≡◌, ℕ, suc, ◌+◌, ◌≤◌, true, List, [], ◌∷◌, ◌++◌, length, map, None, Ok, refl, sym, ap, subst, ◌∙◌, arith}
+use Rattle.std.proofs.Common.{◌≡◌, ℕ, suc, ◌+◌, ◌≤◌, true, List, [], ◌∷◌, ◌++◌, length, map, None, Ok, refl, sym, ap, subst, ◌∙◌, arith}
 use Rattle.std.specs.List.{AllByRecursion, flat_map, join_with_byte, list_all}
-use Rattle.std.proofs.lemmas.Bool.{cases_Bool, and_parts}
+use Rattle.std.proofs.lemmas.Bool.{and_parts}
 use Rattle.std.proofs.lemmas.List.{map-append, append-nil, length-append, length-map}
 use Rattle.std.proofs.lemmas.List.Folds.{list_all-append}
 use Rattle.mp_checks.specs.Checks.{AllPass, each_from, first_fault}
@@ -11,9 +11,8 @@ use Rattle.mp_words.specs.Answers.{in_order, IsAnswer, IsRising}
 use Rattle.mp_topology.specs.Facts.{IsTopology}
 use Rattle.mp_topology.specs.declared.topology.Topology.{Topology}
 use Rattle.mp_script.specs.Splitting.{is_script_byte, lines_of}
-use Rattle.mp_script.specs.Shape.{shape_of}
 use Rattle.mp_script.specs.Before.{each_of, answer_of, submitted_of, submitted_in}
-use Rattle.mp_script.specs.Lines.{byte_checks, line_checks, built_checks, is_built}
+use Rattle.mp_script.specs.Lines.{byte_checks, line_checks}
 use Rattle.mp_script.specs.Plans.{body, plans}
 use Rattle.mp_script.specs.Script.{checks, script_of, script_in}
 use Rattle.mp_script.specs.Written.{answer_words, plan_lines, line_text, line_words, script_lines, script_text, numbered_from, plans_from, renumbered, IsReadAs}
@@ -21,41 +20,10 @@ use Rattle.mp_script.specs.declared.script.Numbered1.{Numbered1}
 use Rattle.mp_script.specs.declared.script.LanePlan.{LanePlan}
 use Rattle.mp_script.specs.declared.script.Script.{Script}
 use Rattle.mp_script.proofs.WrittenWords.{are_plain, are_short, text_short, lines_of_text, script_bytes}
-use Rattle.mp_script.proofs.WrittenShapes.{Seen, canon, text_of}
-use Rattle.mp_script.proofs.WrittenLine.{is_kept}
-use Rattle.mp_script.proofs.WrittenPass.{PassFrom, IsLike, from_checks, to_checks, pass_both, few_lines, kept_lines, kept_yes, kept_no, kept_pass, each_of_append}
-use Rattle.mp_script.proofs.WrittenAnswers.{IsWritten, answer_line, answer_lines, plain_answer, answer_read, answers_lanes, answers_submits, answers_again, answers_pass}
-use Rattle.mp_script.proofs.WrittenPlans.{kept_seen, AllRight, all_right, AreFirst, are_first, submitted_same, kept_submits, kept_plans, first_body, kept_words, joined_words, plain_kept, short_kept, length_kept, lane_written}
+use Rattle.mp_script.proofs.WrittenPass.{PassFrom, IsLike, from_checks, to_checks, pass_both, few_lines, kept_lines, kept_pass, each_of_append}
+use Rattle.mp_script.proofs.WrittenAnswers.{IsWritten, answer_line, answer_lines, plain_answer, answers_lanes, answers_submits, answers_again, answers_pass}
+use Rattle.mp_script.proofs.WrittenPlans.{AllRight, all_right, AreFirst, are_first, submitted_same, kept_submits, kept_plans, first_body, kept_words, joined_words, plain_kept, short_kept, length_kept, lane_written}
 use Rattle.mp_script.proofs.WrittenOrder.{length_in_order, all_in_order, rising_in_order, HasRequest, requests_right, both_written, kept_answers, few_written, plans_answers, ranges_right, answers_rise}
-
--- ---- what can be run
-
-abbrev pub AreBuilt : List (List ℕ) → Type 0
-AreBuilt ls = AllByRecursion (λ l. is_built (shape_of l) ≡ true) ls
-
-built_lines : (i : ℕ) (ls : List (List ℕ)) → AllPass (each_from built_checks i ls) → AreBuilt ls
-unfolding built_checks
-built_lines i [] h = tt
-built_lines i (l ∷ ls) h = (h.0, built_lines (suc i) ls h.1)
-
-lines_built : (i : ℕ) (ls : List (List ℕ)) → AreBuilt ls → AllPass (each_from built_checks i ls)
-unfolding built_checks
-lines_built i [] h = tt
-lines_built i (l ∷ ls) h = (h.0, lines_built (suc i) ls h.1)
-
-kept_built : (t : Topology) (pages : ℕ) (ls : List (List ℕ)) → AllRight t pages ls → AreBuilt ls → AreBuilt (kept_lines ls)
-kept_built t pages [] right h = tt
-kept_built t pages (l ∷ ls) right h = elim (cases_Bool (is_kept (shape_of l))) [
-  | inl e ↦
-      let same : is_built (shape_of (text_of (canon (shape_of l)))) ≡ is_built (shape_of l) = ap (λ (v : Seen). v.built) (kept_seen t pages (shape_of l) right.0 e) in
-      rw (kept_yes l ls e) (same ∙ h.0, kept_built t pages ls right.1 h.1)
-  | inr e ↦ rw (kept_no l ls e) (kept_built t pages ls right.1 h.1)
-]
-
--- a line that answers can be run
-written_built : (answers : List Answer) (ls : List (List ℕ)) → AllByRecursion IsWritten answers → AreBuilt ls → AreBuilt (answer_lines answers ++ ls)
-written_built [] ls written h = h
-written_built (x ∷ answers) ls written h = (ap is_built (answer_read x written.0), written_built answers ls written.1 h)
 
 -- ---- the bytes
 
@@ -84,7 +52,6 @@ canon_lines ls = answer_lines (in_order (each_of answer_of ls)) ++ kept_lines ls
 pub record IsPassed (t : Topology) (pages : ℕ) (ls : List (List ℕ)) : Type 0 where
   pub topology : IsTopology t
   pub passed : PassFrom t pages (submitted_in t.near.nodes ls) [] ls
-  pub built : AreBuilt ls
 
 right_of : (t : Topology) (pages : ℕ) (ls : List (List ℕ)) → IsPassed t pages ls → AllRight t pages ls
 right_of t pages ls h = all_right t pages (submitted_in t.near.nodes ls) [] ls h.topology.nodes_most h.topology.names h.passed
@@ -170,22 +137,14 @@ canon_checks t pages ls h =
     to_checks t pages (canon_lines ls) [] (canon_lines ls) refl
     (subst (λ submits. PassFrom t pages submits [] (canon_lines ls)) (sym (canon_submits t pages ls h)) (canon_pass t pages ls h))
 
-canon_built : (t : Topology) (pages : ℕ) (ls : List (List ℕ)) → IsPassed t pages ls → AllPass (each_from built_checks 0 (canon_lines ls))
-canon_built t pages ls h =
-    let answers = in_order (each_of answer_of ls) in
-    lines_built 0 (canon_lines ls)
-    (written_built answers (kept_lines ls) (written_of t pages ls h) (kept_built t pages ls (right_of t pages ls h) h.built))
-
 text_checks : (t : Topology) (pages : ℕ) (ls : List (List ℕ)) → IsPassed t pages ls → AllPass (checks t pages (script_text t (script_of t.controllers ls)))
 unfolding checks
 text_checks t pages ls h =
     let text = script_text t (script_of t.controllers ls) in
     let bytes : AllPass (each_from byte_checks 0 text) = bytes_pass 0 text (script_bytes (script_lines t (script_of t.controllers ls)) (plain_script t pages ls h)) in
-    let lines : AllPass (each_from (line_checks t pages (canon_lines ls)) 0 (canon_lines ls) ++ each_from built_checks 0 (canon_lines ls)) =
-    pass_join (each_from (line_checks t pages (canon_lines ls)) 0 (canon_lines ls)) (each_from built_checks 0 (canon_lines ls)) (canon_checks t pages ls h) (canon_built t pages ls h) in
-    let same : AllPass (each_from (line_checks t pages (lines_of text)) 0 (lines_of text) ++ each_from built_checks 0 (lines_of text)) =
-    subst (λ ls. AllPass (each_from (line_checks t pages ls) 0 ls ++ each_from built_checks 0 ls)) (sym (lines_of_script t pages ls h)) lines in
-    pass_join (each_from byte_checks 0 text) (each_from (line_checks t pages (lines_of text)) 0 (lines_of text) ++ each_from built_checks 0 (lines_of text)) bytes same
+    let lines : AllPass (each_from (line_checks t pages (lines_of text)) 0 (lines_of text)) =
+    subst (λ ls. AllPass (each_from (line_checks t pages ls) 0 ls)) (sym (lines_of_script t pages ls h)) (canon_checks t pages ls h) in
+    pass_join (each_from byte_checks 0 text) (each_from (line_checks t pages (lines_of text)) 0 (lines_of text)) bytes lines
 
 -- ---- the script
 
@@ -208,12 +167,10 @@ canon_script t pages ls h =
 passed_lines : (t : Topology) (pages : ℕ) (bytes : List ℕ) → IsTopology t → first_fault (checks t pages bytes) ≡ None → IsPassed t pages (lines_of bytes)
 unfolding checks
 passed_lines t pages bytes topology h =
-    let p = pass_split (each_from byte_checks 0 bytes) _ (all_pass (checks t pages bytes) h) in
-    let q = pass_split (each_from (line_checks t pages (lines_of bytes)) 0 (lines_of bytes)) (each_from built_checks 0 (lines_of bytes)) p.1 in
+    let p = pass_split (each_from byte_checks 0 bytes) (each_from (line_checks t pages (lines_of bytes)) 0 (lines_of bytes)) (all_pass (checks t pages bytes) h) in
     record {
       topology = topology;
-      passed = from_checks t pages (lines_of bytes) [] (lines_of bytes) refl q.0;
-      built = built_lines 0 (lines_of bytes) q.1;
+      passed = from_checks t pages (lines_of bytes) [] (lines_of bytes) refl p.1;
     }
 
 again_of : (t : Topology) (pages : ℕ) (ls : List (List ℕ)) → IsPassed t pages ls → script_in t pages (script_text t (script_of t.controllers ls)) ≡ Ok (renumbered (script_of t.controllers ls))

@@ -12,7 +12,7 @@ use Rattle.mp_script.specs.Splitting.{number_of, value_of, is_in}
 use Rattle.mp_script.specs.Shape.{Shape, skipped, unknown, answer, lane, keeper, submit, finish, requeue, log, ctrl, anatt, add, remove, reap, policy, is_word, shape_0, shape_1, shape_2, shape_3, shape_of_words, shape_of}
 use Rattle.mp_script.specs.Wording.{has_numbers, is_named, is_node, is_submitted, has_box, has_ana, is_there}
 use Rattle.mp_script.specs.Before.{Before, begins_lane, is_keeper, submitted_of, repeats}
-use Rattle.mp_script.specs.Lines.{stands, is_keepers, is_built}
+use Rattle.mp_script.specs.Lines.{stands, is_keepers}
 use Rattle.mp_script.specs.Plans.{line_of, page_of, finish_of}
 use Rattle.mp_script.specs.declared.script.Line.{Line}
 use Rattle.mp_script.proofs.WrittenNumbers.{number_decimal, plain_decimal}
@@ -150,7 +150,6 @@ pub record Seen : Type 0 where
   pub named : Bool
   pub submitted : Bool
   pub repeats : Bool
-  pub built : Bool
   pub submit : Option ℕ
   pub line : Option Line
 
@@ -164,7 +163,6 @@ seen controllers nodes pages lanes submits b s = record {
   named = is_named controllers pages s;
   submitted = is_submitted submits s;
   repeats = repeats b s;
-  built = is_built s;
   submit = submitted_of s;
   line = line_of controllers s;
 }

@@ -30,24 +30,6 @@ pub record IsScript (script : Script) : Type 0 where
   pub few_lines : length (flat_map (λ plan. plan.lines) script.lanes) ≤ 65536
   pub distinct : IsDistinct (submits_in script.lanes)
 
--- ---- what can be run so far
-
--- the line is none of `add`, `remove` and `reap`
-abbrev pub IsSimple : Line → Type 0
-IsSimple (line.Add c page) = ⊥
-IsSimple (line.Remove c) = ⊥
-IsSimple line.Reap = ⊥
-IsSimple _ = Unit {0}
-
--- each line is none of `add`, `remove` and `reap`
-abbrev pub AreSimple : List Numbered1 → Type 0
-AreSimple [] = Unit {0}
-AreSimple (l ∷ lines) = IsSimple l.line × AreSimple lines
-
--- a script as the program can run it so far
-pub record IsBuilt (script : Script) : Type 0 where
-  pub simple : AllByRecursion (λ plan. AreSimple plan.lines) script.lanes
-
 -- ---- what lines name
 
 -- there is a controller of this number, and it has ANA or not

@@ -1,6 +1,5 @@
 -- The checks of each line.
 use Rattle.std.specs.Prelude.{ℕ, ◌+◌, Bool, true, false, ◌&&◌, not, nat_le, ◌==◌, List, [], ◌∷◌, take}
-use Rattle.std.specs.List.{list_all}
 use Rattle.mp_topology.specs.declared.topology.Topology.{Topology}
 use Rattle.mp_script.specs.Splitting.{is_script_byte}
 use Rattle.mp_script.specs.Shape.{Shape, skipped, unknown, answer, lane, keeper, add, remove, reap, policy, shape_of}
@@ -49,18 +48,3 @@ line_checks t pages lines i l =
 -- the check of the byte at place i
 unfoldable pub byte_checks : ℕ → ℕ → List (Bool × ScriptError)
 byte_checks i b = (is_script_byte b, errors.NotAscii i) ∷ []
-
--- the line is of a kind that can be run so far: it is none of `add`, `remove` and `reap`
-abbrev pub is_built : Shape → Bool
-is_built (add c k) = false
-is_built (remove c) = false
-is_built reap = false
-is_built _ = true
-
--- the check of a line that comes last, behind those of the whole text: it is of a kind that can be run so far
-unfoldable pub built_checks : ℕ → List ℕ → List (Bool × ScriptError)
-built_checks i l = (is_built (shape_of l), errors.NotBuilt (i + 1)) ∷ []
-
--- each of these lines is of such a kind
-abbrev pub are_built : List (List ℕ) → Bool
-are_built lines = list_all (λ l. is_built (shape_of l)) lines

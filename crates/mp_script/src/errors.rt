@@ -34,9 +34,6 @@ pub enum ScriptError {
     /// Memory ran out.
     #[error("out of memory")]
     NoMemory,
-    /// The line is an `add`, a `remove` or a `reap`, which the program can't run yet.
-    #[error("line {0} asks for what the program can't run yet")]
-    NotBuilt(u32),
 }
 
 impl From<AllocError> for ScriptError {

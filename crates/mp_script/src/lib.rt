@@ -3,7 +3,6 @@
 
 mod answered;
 mod building;
-mod built;
 mod checking;
 mod earlier;
 pub mod errors;

@@ -1,6 +1,6 @@
 //! What was read of a text so far.
 
-ghost use Rattle.std.specs.Prelude.{◌≡◌, ◌≤◌, ◌+◌, ◌++◌, ◌&&◌, None, Some, is_some, true, unwrap_or, IfOk, IfErr, IfSome, OnOk, length};
+ghost use Rattle.std.specs.Prelude.{◌≡◌, ◌≤◌, ◌+◌, ◌++◌, None, Some, is_some, true, unwrap_or, IfOk, IfErr, IfSome, OnOk, length};
 ghost use Rattle.std.specs.Option.{option_to_list};
 ghost use Rattle.mp_checks.specs.Checks.{first_fault, each_from};
 ghost use Rattle.mp_checks.specs.Marks.{HaveSame};
@@ -8,13 +8,12 @@ ghost use Rattle.mp_words.specs.Answers.{in_order};
 ghost use Rattle.mp_script.specs.Splitting.{lines_of};
 ghost use Rattle.mp_script.specs.Shape.{shape_of};
 ghost use Rattle.mp_script.specs.Before.{Before, each_of, answer_of, submitted_in};
-ghost use Rattle.mp_script.specs.Lines.{shape_checks, line_checks, is_built, are_built};
+ghost use Rattle.mp_script.specs.Lines.{shape_checks, line_checks};
 ghost use Rattle.mp_script.specs.Plans.{plans};
 ghost use Rattle.mp_script.specs.Building.{IsEarlier, noted, put};
 ghost use Rattle.mp_script.specs.Script.{script_of};
 
 use crate::building::{Building, push_plan, put};
-use crate::built::is_built;
 use crate::checking::check_line;
 use crate::earlier::{Earlier, noted, nothing};
 use crate::errors::ScriptError;
@@ -25,13 +24,12 @@ use crate::splitting::split_line;
 use sqlite_items::Items;
 use std::alloc::{AllocError, Global};
 
-/// How many lines were read, what is known of them, their lanes, and whether each of them can be run so far.
+/// How many lines were read, what is known of them, and their lanes.
 #[derive(Drop)]
 pub(crate) struct Progress {
     pub(crate) number: u32,
     pub(crate) earlier: Earlier,
     pub(crate) building: Building,
-    pub(crate) built: bool,
 }
 
 /// What was read with one line more.
@@ -47,7 +45,6 @@ fn read_line<'a>(
     ensures passed { (b : Before) → IsEarlier progress.earlier b → OnOk result (first_fault (shape_checks setting.now.topology.now setting.now.pages (unwrap_or setting.now.submits progress.earlier.submitted) b (progress.number + 1) (shape_of line.now)) ≡ None) }
     ensures known { (b : Before) → IsEarlier progress.earlier b → IfOk result (λ p. IsEarlier p.earlier (noted b (shape_of line.now))) }
     ensures building { IfOk result (λ p. p.building ≡ put setting.now.topology.now.controllers progress.building (progress.number + 1) (shape_of line.now)) }
-    ensures built { IfOk result (λ p. p.built ≡ (progress.built && is_built (shape_of line.now))) }
     ensures number { IfOk result (λ p. p.number ≡ progress.number + 1) }
     ensures few { IfOk result (λ p. p.number ≤ 65536) }
     ensures lanes { IfOk result (λ p. p.earlier.lanes ≤ 16) }
@@ -56,7 +53,6 @@ fn read_line<'a>(
         number,
         earlier,
         building,
-        built,
     } = progress;
     let number = number + 1;
     let line = shape_of(line);
@@ -67,7 +63,6 @@ fn read_line<'a>(
         number,
         earlier,
         building,
-        built: built & is_built(line),
     })
 }
 
@@ -84,7 +79,6 @@ fn read_lines<'a>(
     ensures few { OnOk result (length (lines_of bytes.now) ≤ 65536) }
     ensures answers { IfOk result (λ p. p.earlier.answered ≡ in_order (each_of answer_of (lines_of bytes.now))) }
     ensures lanes { IfOk result (λ p. p.building.done ++ option_to_list p.building.current ≡ plans setting.now.topology.now.controllers 1 (lines_of bytes.now)) }
-    ensures built { IfOk result (λ p. p.built ≡ are_built (lines_of bytes.now)) }
 {
     let mut progress = Progress {
         number: 0,
@@ -93,7 +87,6 @@ fn read_lines<'a>(
             done: Items::new(alloc),
             current: None,
         },
-        built: true,
     };
     let mut rest = bytes;
     while !rest.is_empty() {
@@ -112,7 +105,6 @@ fn script_of(alloc: Global, progress: Progress) -> Result<Script, AllocError>
         number: _,
         earlier,
         building,
-        built: _,
     } = progress;
     let answers = earlier.answered.answers(alloc)?;
     let Building { mut done, current } = building;
@@ -123,8 +115,8 @@ fn script_of(alloc: Global, progress: Progress) -> Result<Script, AllocError>
     })
 }
 
-/// The script of the lines of a text, where none has a fault, and whether each line can be run so far. Where it isn't
-/// known what the whole text submits, a refusal says nothing.
+/// The script of the lines of a text, where none has a fault. Where it isn't known what the whole text submits, a
+/// refusal says nothing.
 ///
 /// # Errors
 ///
@@ -134,15 +126,13 @@ pub(crate) fn script_in<'a>(
     alloc: Global,
     setting: &Setting<'a>,
     bytes: &'a [u8],
-) -> Result<(Script, bool), ScriptError>
+) -> Result<Script, ScriptError>
     requires { IfSome setting.now.submits (λ all. HaveSame all (submitted_in setting.now.topology.now.near.nodes (lines_of bytes.now))) }
     ensures few { OnOk result (length (lines_of bytes.now) ≤ 65536) }
     ensures refused { is_some setting.now.submits ≡ true → IfErr result (λ e. (e ≡ ScriptError.NoMemory → ⊥) → first_fault (each_from (line_checks setting.now.topology.now setting.now.pages (lines_of bytes.now)) 0 (lines_of bytes.now)) ≡ Some e) }
     ensures passed { OnOk result (first_fault (each_from (line_checks setting.now.topology.now setting.now.pages (lines_of bytes.now)) 0 (lines_of bytes.now)) ≡ None) }
-    ensures value { IfOk result (λ p. p ≡ (script_of setting.now.topology.now.controllers (lines_of bytes.now), are_built (lines_of bytes.now))) }
+    ensures value { IfOk result (λ s. s ≡ script_of setting.now.topology.now.controllers (lines_of bytes.now)) }
 {
     let progress = read_lines(alloc, setting, bytes)?;
-    let built = progress.built;
-    let script = script_of(alloc, progress)?;
-    Ok((script, built))
+    Ok(script_of(alloc, progress)?)
 }

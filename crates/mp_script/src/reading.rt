@@ -1,13 +1,13 @@
 //! The reader of scripts.
 
 ghost use Rattle.std.specs.Prelude.{◌≡◌, ◌≤◌, None, Some, IfOk, IfErr, OnOk, length};
+ghost use Rattle.std.specs.List.{list_all};
 ghost use Rattle.mp_checks.specs.Checks.{Reads, Answers, first_fault, each_from};
 ghost use Rattle.mp_script.specs.Splitting.{is_script_byte, lines_of};
-ghost use Rattle.mp_script.specs.Lines.{byte_checks, line_checks, are_built};
+ghost use Rattle.mp_script.specs.Lines.{byte_checks, line_checks};
 ghost use Rattle.mp_script.specs.Script.{checks, script_of, script_in, IsLeastFault};
-ghost use Rattle.mp_script.specs.Facts.{IsScript, IsOver, IsBuilt};
+ghost use Rattle.mp_script.specs.Facts.{IsScript, IsOver};
 
-use crate::built::check_built_unless;
 use crate::errors::ScriptError;
 use crate::places::places_of;
 use crate::progress::script_in;
@@ -21,7 +21,18 @@ use std::alloc::{AllocError, Global};
 fn is_script_byte(b: u8) -> bool
     ensures { result ≡ is_script_byte b }
 {
-    (b >= 32 && b <= 126) || b == 9 || b == 13 || b == 10
+    ((b >= 32) & (b <= 126)) | (b == 9) | (b == 13) | (b == 10)
+}
+
+/// Whether each byte may stand in a script. No byte ends the loop, so a machine can look at many of them at once.
+fn are_script_bytes(bytes: &[u8]) -> bool
+    ensures { result ≡ list_all is_script_byte bytes.now }
+{
+    let mut good = true;
+    for b in bytes {
+        good = good & is_script_byte(*b);
+    }
+    good
 }
 
 /// Checks that each byte may stand in a script.
@@ -29,6 +40,9 @@ fn check_bytes(bytes: &[u8]) -> Result<(), ScriptError>
     requires { length bytes.now ≤ 16777216 }
     ensures { Reads ScriptError.NoMemory result (each_from byte_checks 0 bytes.now) tt }
 {
+    if are_script_bytes(bytes) {
+        return Ok(());
+    }
     for (i, b) in bytes.iter().enumerate() {
         if !is_script_byte(*b) {
             return Err(ScriptError::NotAscii(i as u32));
@@ -58,36 +72,36 @@ fn setting_of<'a>(
     })
 }
 
-/// The script of the lines of a text where each line that finishes a request stands behind the one that submits it, and
-/// whether each line can be run so far. A refusal says nothing.
+/// The script of the lines of a text where each line that finishes a request stands behind the one that submits it. A
+/// refusal says nothing.
 fn script_at_once<'a>(
     alloc: Global,
     bytes: &'a [u8],
     topology: &'a Topology,
     pages: usize,
-) -> Result<(Script, bool), ScriptError>
+) -> Result<Script, ScriptError>
     requires controllers { length topology.now.controllers ≤ 64 }
     requires nodes { topology.now.near.nodes ≤ 8 }
     ensures few { OnOk result (length (lines_of bytes.now) ≤ 65536) }
     ensures passed { OnOk result (first_fault (each_from (line_checks topology.now pages (lines_of bytes.now)) 0 (lines_of bytes.now)) ≡ None) }
-    ensures value { IfOk result (λ p. p ≡ (script_of topology.now.controllers (lines_of bytes.now), are_built (lines_of bytes.now))) }
+    ensures value { IfOk result (λ s. s ≡ script_of topology.now.controllers (lines_of bytes.now)) }
 {
     let setting = setting_of(alloc, topology, pages, None)?;
     script_in(alloc, &setting, bytes)
 }
 
-/// The script of the lines of a text, and whether each line can be run so far. What the whole text submits is collected
-/// only where some line is refused without it.
+/// The script of the lines of a text. What the whole text submits is collected only where some line is refused without
+/// it.
 fn script_of_lines<'a>(
     alloc: Global,
     bytes: &'a [u8],
     topology: &'a Topology,
     pages: usize,
-) -> Result<(Script, bool), ScriptError>
+) -> Result<Script, ScriptError>
     requires controllers { length topology.now.controllers ≤ 64 }
     requires nodes { topology.now.near.nodes ≤ 8 }
     ensures few { OnOk result (length (lines_of bytes.now) ≤ 65536) }
-    ensures read { Reads ScriptError.NoMemory result (each_from (line_checks topology.now pages (lines_of bytes.now)) 0 (lines_of bytes.now)) (script_of topology.now.controllers (lines_of bytes.now), are_built (lines_of bytes.now)) }
+    ensures read { Reads ScriptError.NoMemory result (each_from (line_checks topology.now pages (lines_of bytes.now)) 0 (lines_of bytes.now)) (script_of topology.now.controllers (lines_of bytes.now)) }
 {
     if let Ok(read) = script_at_once(alloc, bytes, topology, pages) {
         return Ok(read);
@@ -111,9 +125,7 @@ fn checked_script<'a>(
     ensures { Reads ScriptError.NoMemory result (checks topology.now pages bytes.now) (script_of topology.now.controllers (lines_of bytes.now)) }
 {
     check_bytes(bytes)?;
-    let (script, built) = script_of_lines(alloc, bytes, topology, pages)?;
-    check_built_unless(bytes, built)?;
-    Ok(script)
+    script_of_lines(alloc, bytes, topology, pages)
 }
 
 /// Reads a script, of at most 16,777,216 bytes, over a topology and so many boxes. The topology has at most 64
@@ -132,8 +144,7 @@ fn checked_script<'a>(
 ///   finishes.
 /// - `Repeat`: its request was submitted or its attempt answered by an earlier line, or it is a second keeper.
 ///
-/// Where no line has a fault, `NotBuilt` is answered with the number of the first `add`, `remove` or `reap`, which the
-/// program can't run yet. `NoMemory` is answered where memory runs out.
+/// `NoMemory` is answered where memory runs out.
 pub fn read_script(
     alloc: Global,
     bytes: &[u8],
@@ -149,7 +160,6 @@ pub fn read_script(
     ensures least { IfErr result (λ e. (e ≡ ScriptError.NoMemory → ⊥) → first_fault (each_from byte_checks 0 bytes.now) ≡ None → IsLeastFault topology.now pages (lines_of bytes.now) e) }
     ensures read { IfOk result IsScript }
     ensures over { IfOk result (IsOver topology.now pages) }
-    ensures built { IfOk result IsBuilt }
 {
     checked_script(alloc, bytes, topology, pages)
 }

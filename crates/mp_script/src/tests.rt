@@ -35,7 +35,6 @@ fn parts(refusal: ScriptError) -> (&'static str, u32) {
         ScriptError::NotKeeper(line) => ("NotKeeper", line),
         ScriptError::Limit(line) => ("Limit", line),
         ScriptError::NoMemory => ("NoMemory", 0),
-        ScriptError::NotBuilt(line) => ("NotBuilt", line),
     }
 }
 
@@ -101,12 +100,11 @@ const REFUSED: [(&[u8], (&str, u32)); 50] = [
     // What was said before.
     (b"answer 0 1 0302\nanswer 0 01 0006", ("Repeat", 2)),
     (b"lane\nsubmit 7 0\nlane\nsubmit 007 0", ("Repeat", 4)),
-    // What can't be run yet, once nothing else is at fault.
     (b"keeper\nreap\njump", ("Line", 3)),
-    (b"keeper\nreap", ("NotBuilt", 2)),
-    (b"keeper\nremove a\nadd a -", ("NotBuilt", 2)),
-    (b"keeper\nadd a -", ("NotBuilt", 2)),
-    // What can be run.
+    // What is read.
+    (b"keeper\nreap", ("Ok", 0)),
+    (b"keeper\nremove a\nadd a -", ("Ok", 0)),
+    (b"keeper\nadd a -", ("Ok", 0)),
     (b"answer 0 1 03fF", ("Ok", 0)),
     (b"lane\nrequeue", ("Ok", 0)),
     (b"lane\nctrl a deleting-noio\nanatt b", ("Ok", 0)),

@@ -7,7 +7,7 @@ ghost use Rattle.mp_script.specs.Wording.{is_node, has_numbers, is_named, is_sub
 use crate::requests::Requests;
 use crate::setting::Setting;
 use crate::shapes::{LineShape, is_word};
-use crate::splitting::{is_in, is_status, request_of, value_of};
+use crate::splitting::{is_in, is_status, request_of};
 use mp_checks::digits::number_of;
 use mp_words::names::{cstate_named, policy_named};
 
@@ -16,7 +16,10 @@ use mp_words::names::{cstate_named, policy_named};
 fn is_node(nodes: u32, word: &[u8]) -> bool
     ensures { result ≡ is_node nodes word.now }
 {
-    number_of(word).is_some() && value_of(word) < u64::from(nodes)
+    match number_of(word) {
+        Some(n) => n < u64::from(nodes),
+        None => false,
+    }
 }
 
 /// Whether the numbers of a line are numbers, and in their ranges.

@@ -1,7 +1,7 @@
 use Rattle.std.proofs.Common.{arith}
 use Rattle.std.proofs.lemmas.Result.{err_from_is_err_and}
 use Rattle.mp_script.proofs.Among.{known_same}
-use Rattle.mp_script.proofs.Steps.{at_stops, at_more, at_end, built_more, built_end}
+use Rattle.mp_script.proofs.Steps.{at_stops, at_more, at_end}
 use Rattle.mp_script.proofs.progress.read_lines.Goals as goal
 
 pub loop-rest-preserved : goal.loop-rest-preserved
@@ -10,7 +10,6 @@ loop-rest-preserved c = record {
       c.loop-rest.invariant.at c.split_line.ensures.line c.requires c.in_ok-progress.ensures.passed c.in_ok-progress.ensures.known c.in_ok-progress.ensures.building c.in_ok-progress.ensures.number;
   few = c.in_ok-progress.ensures.few;
   begun = c.in_ok-progress.ensures.lanes;
-  built = built_more c.args.bytes.now c.loop-rest.rest.now c.split_line.result.0.now c.split_line.result.1.now c.loop-rest.progress.built _ c.loop-rest.invariant.built c.split_line.ensures.line c.in_ok-progress.ensures.built;
 }
 
 pub returns-in_err-progress-clause-refused : goal.returns-in_err-progress-clause-refused
@@ -33,6 +32,3 @@ pub returns-clause-few : goal.returns-clause-few
 returns-clause-few c =
     let count = (at_end c.args.setting.now.topology.now c.args.setting.now.pages c.args.bytes.now c.loop-rest.rest.now c.loop-rest.progress c.loop-rest.invariant.at c.loop-rest-test.ensures).3 in
     omega (arith, count, c.loop-rest.invariant.few)
-
-pub returns-clause-built : goal.returns-clause-built
-returns-clause-built c = built_end c.args.bytes.now c.loop-rest.rest.now c.loop-rest.progress.built c.loop-rest.invariant.built c.loop-rest-test.ensures

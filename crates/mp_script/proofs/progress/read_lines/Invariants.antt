@@ -1,7 +1,4 @@
-use Rattle.std.proofs.Common.{◌≡◌, ◌≤◌, length}
-use Rattle.std.specs.Prelude.{◌&&◌}
-use Rattle.mp_script.specs.Splitting.{lines_of}
-use Rattle.mp_script.specs.Lines.{are_built}
+use Rattle.std.proofs.Common.{◌≤◌, length}
 use Rattle.mp_script.proofs.Steps.{IsAt}
 use Rattle.mp_script.proofs.progress.read_lines.Given as goal
 
@@ -10,7 +7,6 @@ invariant-loop-rest l = record {
   at : IsAt l.setting.topology.now l.setting.pages l.bytes l.rest l.progress;
   few : l.progress.number ≤ 65536;
   begun : l.progress.earlier.lanes ≤ 16;
-  built : are_built (lines_of l.bytes) ≡ (l.progress.built && are_built (lines_of l.rest));
 }
 
 abbrev pub decreases-loop-rest : goal.decreases-loop-rest

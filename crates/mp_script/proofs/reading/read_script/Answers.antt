@@ -1,5 +1,5 @@
 use Rattle.mp_script.specs.Script.{checks, script_of, script_in}
-use Rattle.mp_script.specs.Facts.{IsScript, IsBuilt, IsOver}
+use Rattle.mp_script.specs.Facts.{IsScript, IsOver}
 use Rattle.mp_script.specs.Splitting.{lines_of}
 use Rattle.mp_script.specs.declared.errors.ScriptError.TheVariants.{NoMemory}
 use Rattle.mp_checks.proofs.CheckLaws.{reads_answers}
@@ -14,10 +14,7 @@ pub returns-clause-least : goal.returns-clause-least
 returns-clause-least c = read_least c.args.topology.now c.args.pages c.args.bytes.now c.checked_script.result _ c.checked_script.ensures
 
 pub returns-clause-read : goal.returns-clause-read
-returns-clause-read c = (ok_each c.checked_script.result IsScript IsBuilt (IsOver c.args.topology.now c.args.pages) (read_facts c.args.topology.now c.args.pages c.args.bytes.now c.checked_script.result c.checked_script.ensures)).0
+returns-clause-read c = (ok_each c.checked_script.result IsScript (IsOver c.args.topology.now c.args.pages) (read_facts c.args.topology.now c.args.pages c.args.bytes.now c.checked_script.result c.checked_script.ensures)).0
 
 pub returns-clause-over : goal.returns-clause-over
-returns-clause-over c = (ok_each c.checked_script.result IsScript IsBuilt (IsOver c.args.topology.now c.args.pages) (read_facts c.args.topology.now c.args.pages c.args.bytes.now c.checked_script.result c.checked_script.ensures)).1.1
-
-pub returns-clause-built : goal.returns-clause-built
-returns-clause-built c = (ok_each c.checked_script.result IsScript IsBuilt (IsOver c.args.topology.now c.args.pages) (read_facts c.args.topology.now c.args.pages c.args.bytes.now c.checked_script.result c.checked_script.ensures)).1.0
+returns-clause-over c = (ok_each c.checked_script.result IsScript (IsOver c.args.topology.now c.args.pages) (read_facts c.args.topology.now c.args.pages c.args.bytes.now c.checked_script.result c.checked_script.ensures)).1
