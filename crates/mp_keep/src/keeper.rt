@@ -148,7 +148,7 @@ impl Keeper {
     }
 
     /// How many removals are under way.
-    pub(crate) fn removals(&self) -> usize
+    pub fn removals(&self) -> usize
         ensures { result ≡ length self.now.removals }
     {
         self.removals.len()

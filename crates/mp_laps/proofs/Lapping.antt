@@ -67,7 +67,7 @@ is_sent near a b before after f made s =
     ∙ ap (λ (t : Try). outcome_of (Some (tried_of t))) s.tried ∙ ap (λ e. outcome_of (Some (tried_of (open_try (length before.tries + 1) e made.note)))) ended
 
 -- its flight is on its way
-flies : (near : Near) (a b : Core) (before after : RequestView) (f : Flight) (made : Try) → Submits near a b before after (submitted.Sent f) made → has_flight f b.view ≡ true
+pub flies : (near : Near) (a b : Core) (before after : RequestView) (f : Flight) (made : Try) → Submits near a b before after (submitted.Sent f) made → has_flight f b.view ≡ true
 flies near a b before after f made s =
     let more : b.view.flights ≡ a.view.flights ++ f ∷ [] = ap (λ (c : Core). c.view.flights) s.view ∙ ap (λ (fs : List Flight). a.view.flights ++ fs) (sent_end a.lane before.id made.end f s.answer_is).1 in
     ap (list_any (is_flight f)) more ∙ sent_flies f a.view.flights

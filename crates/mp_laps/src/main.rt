@@ -12,6 +12,8 @@ use std::process::ExitCode;
 use std::rt::Env;
 
 mod bench;
+#[cfg(test)]
+mod keeper_tests;
 mod lap;
 #[cfg(test)]
 mod tests;
