@@ -49,7 +49,6 @@ fn script_line(alloc: Global, error: ScriptError) -> Result<String, AllocError> 
         ScriptError::NotKeeper(line) => numbered_line(alloc, "NotKeeper", line),
         ScriptError::Limit(line) => numbered_line(alloc, "Limit", line),
         ScriptError::NoMemory => String::from_str(alloc, "out of memory"),
-        ScriptError::NotBuilt(line) => numbered_line(alloc, "NotBuilt", line),
     }
 }
 

@@ -1,7 +1,9 @@
 -- The words of the opening are packed and lawful, and have room.
-use Rattle.std.proofs.Common.{◌≡◌, ℕ, zero, suc, ◌+◌, ◌*◌, ◌-◌, ◌<◌, ◌≤◌, ◌==◌, Bool, true, false, true≢false, not, ◌||◌, List, [], ◌∷◌, ◌++◌, length, take, map, replicate, get_or, set, Option, Some, None, Result, Ok, Err, inl, inr, refl, sym, ap, subst, ◌∙◌, arith, if◌then◌else◌}
+use Rattle.std.proofs.Common.{◌≡◌, ◌≢◌, ℕ, zero, suc, ◌+◌, ◌*◌, ◌-◌, ◌<◌, ◌≤◌, ◌==◌, Bool, true, false, true≢false, not, ◌||◌, ◌&&◌, nat_lt, List, [], ◌∷◌, ◌++◌, length, take, map, replicate, get_or, set, Option, Some, None, Result, Ok, Err, inl, inr, refl, sym, ap, subst, ◌∙◌, arith, if◌then◌else◌}
 use Rattle.std.specs.Prelude.{IfSome, All, slice_get}
-use Rattle.std.specs.List.{range_with_len}
+use Rattle.std.specs.List.{range_with_len, list_all, AllPairs}
+use Rattle.std.proofs.Math.ListN.{get_or-map}
+use Rattle.std.proofs.lemmas.Bool.{cases_eq}
 use Rattle.std.proofs.lemmas.Bool.Decides.{nat_tests}
 use Rattle.std.proofs.lemmas.List.{append-nil, get_or_default, length-append, length-take-le, map-set, take_all}
 use Rattle.std.proofs.lemmas.List.FromFn.{length-range_with_len}
@@ -11,7 +13,7 @@ use Rattle.mp_words.specs.declared.row.Policy.{Policy}
 use Rattle.mp_words.specs.declared.order.Order.{Order}
 use Rattle.mp_words.specs.Effect.{free_row, IsState}
 use Rattle.mp_words.specs.Facts.{IsRow, IsOrder}
-use Rattle.mp_words.specs.Order.{order_of}
+use Rattle.mp_words.specs.Order.{order_of, slots_of}
 use Rattle.mp_words.specs.Row.{is_given}
 use Rattle.mp_words.specs.RowWord.{is_no_row, row_in, row_of_word}
 use Rattle.mp_words.specs.OrderWord.{is_no_order, order_in, order_of_word}
@@ -25,14 +27,15 @@ use Rattle.mp_topology.specs.declared.topology.Controller.{Controller}
 use Rattle.mp_topology.specs.Facts.{IsTopology}
 use Rattle.mp_script.specs.declared.script.World.{World}
 use Rattle.mp_core.specs.Memory.{row_at, no_side}
-use Rattle.mp_core.specs.Status.{has, lists, begins, first_of_row, listed, unused}
+use Rattle.mp_core.specs.Status.{has, lists}
 use Rattle.mp_core.specs.Unpacked.{unpacked}
+use Rattle.mp_keep.specs.Keeper.{owner_of}
 use Rattle.mp_plain.specs.Packed.{IsPacked}
 use Rattle.mp_rule.specs.Lawful.{IsLawful, HasRoom}
 use Rattle.mp_legal.specs.PlainCall.{Inputs}
 use Rattle.mp_legal.specs.Inputs.{inputs_of}
 use Rattle.mp_run.specs.FirstMemory.{memory_of}
-use Rattle.mp_legal.specs.Opening.{page_or_empty, named_page, opening_row, opening_rows, opening}
+use Rattle.mp_legal.specs.Opening.{page_or_empty, named_page, opening_page, opening_row, opening_rows, opening}
 
 -- what the law of pages says
 abbrev pub PagesState : Type 0
@@ -56,7 +59,7 @@ world_states law w None = tt
 world_states law w (Some box) = box_states law w.topology.anagrpmax w.pages w.topology.nsid box
 
 -- a gift is of an ANA state that a path may have
-stated_is : (ctrl : ℕ) (armed : Bool) (o : Option ℕ) → IfSome o IsState → IsState (stated_gift ctrl armed o).state
+pub stated_is : (ctrl : ℕ) (armed : Bool) (o : Option ℕ) → IfSome o IsState → IsState (stated_gift ctrl armed o).state
 stated_is ctrl armed None h = (omega arith, omega arith)
 stated_is ctrl armed (Some state) h = h
 
@@ -170,14 +173,16 @@ same zero s x = refl
 same (suc n) zero x = refl
 same (suc n) (suc s) x = same n s x
 
--- What the opening is made of: few opening paths, of controllers that are there, and pages that state states.
+-- What the opening is made of: few opening paths, of controllers that are there and differ, and pages that state
+-- states.
 pub record IsOpened (i : Inputs) : Type 0 where
   pub few : length i.topology.opening ≤ 8
   pub there : All (λ ctrl. ctrl < length i.topology.controllers) i.topology.opening
+  pub once : AllPairs (λ p q. p ≢ q) i.topology.opening
   pub states : IsStatedIn i
 
 pub world_opened : PagesState → (w : World) → IsTopology w.topology → IsOpened (inputs_of w)
-world_opened law w t = record { few = t.opening_most; there = t.opening_there; states = world_states law w }
+world_opened law w t = record { few = t.opening_most; there = t.opening_there; once = t.opening_once; states = world_states law w }
 
 listed_given : (i : Inputs) → IsOpened i → (s : ℕ) → lists s (opening i).order ≡ true → is_given (row_at (memory_of (opening i)) s) ≡ true
 listed_given i o s e =
@@ -245,16 +250,10 @@ rows_free f (suc n) (suc k) [] (suc s) past = rows_free f n k [] s (omega arith)
 rows_free f (suc n) k (c ∷ cs) zero past = absurd (omega arith)
 rows_free f (suc n) k (c ∷ cs) (suc s) past = rows_free f n k cs s (omega arith)
 
-given_listed : (given marked : Bool) → given ≡ true → marked ≡ false → begins given marked true ≡ listed
-given_listed given marked g m = (λ i. begins (g i) (m i) true)
-
--- each slot of the opening is listed or unused
-pub opening_keeps : (i : Inputs) → IsOpened i → (s : ℕ) → first_of_row (row_at (memory_of (opening i)) s) (lists s (opening i).order) ≡ (if lists s (opening i).order then listed else unused)
-opening_keeps i o s = by_list (lists s (opening i).order) refl
+-- a slot of the opening has a path exactly where it is listed
+pub opening_given : (i : Inputs) → IsOpened i → (s : ℕ) → is_given (row_at (memory_of (opening i)) s) ≡ lists s (opening i).order
+opening_given i o s = by_list (lists s (opening i).order) refl
   where
-    row : Row
-    row = row_at (memory_of (opening i)) s
-
     past : (n len : ℕ) → len ≡ n → n ≤ 8 → has s (take len (take 8 (range_with_len 0 n ++ replicate 8 0))) ≡ false → n ≤ s
     past n len is few none =
         elim (cases_lt s n) [
@@ -262,13 +261,79 @@ opening_keeps i o s = by_list (lists s (opening i).order) refl
           | inr high ↦ high
         ]
 
-    by_list : (b : Bool) → lists s (opening i).order ≡ b → first_of_row row b ≡ (if b then listed else unused)
-    by_list true is = given_listed (is_given row) row.marked (listed_given i o s is) (row_first i o.states s).unmarked
+    by_list : (b : Bool) → lists s (opening i).order ≡ b → is_given (row_at (memory_of (opening i)) s) ≡ b
+    by_list true is = listed_given i o s is
     by_list false is =
         let n = length i.topology.opening in
         let high : n ≤ s = past n (length (range_with_len 0 n)) (length-range_with_len 0 n) o.few is in
-        let free : row ≡ free_row 0 = rows_free (λ ctrl. opening_row i ctrl (slice_get i.topology.controllers ctrl)) 15 15 i.topology.opening s high in
-        ap (λ (r : Row). first_of_row r false) free
+        ap is_given (rows_free (λ ctrl. opening_row i ctrl (slice_get i.topology.controllers ctrl)) 15 15 i.topology.opening s high)
+
+-- no path of the opening is marked
+pub opening_unmarked : (i : Inputs) → IsOpened i → (s : ℕ) → (row_at (memory_of (opening i)) s).marked ≡ false
+opening_unmarked i o s = (row_first i o.states s).unmarked
+
+-- the list of the opening has slots of the table alone
+within_first : (len m from n k : ℕ) → from + n ≤ 15 → list_all (λ s. nat_lt s 15) (take len (take m (range_with_len from n ++ replicate k 0))) ≡ true
+within_first zero m from n k few = refl
+within_first (suc len) zero from n k few = refl
+within_first (suc len) (suc m) from zero zero few = refl
+within_first (suc len) (suc m) from zero (suc k) few = within_first len m from zero k few
+within_first (suc len) (suc m) from (suc n) k few =
+    let low : nat_lt from 15 ≡ true = grind (arith, nat_tests) in
+    let rest = within_first len m (from + 1) n k (omega (arith, few)) in
+    λ i. low i && rest i
+
+pub opening_within : (i : Inputs) → IsOpened i → list_all (λ s. nat_lt s 15) (slots_of (opening i).order) ≡ true
+opening_within i o = let few = o.few in within_first _ 8 0 (length i.topology.opening) 8 (omega (arith, few))
+
+-- ---- the controllers of the opening
+
+stated_ctrl : (ctrl : ℕ) (armed : Bool) (state : Option ℕ) → (stated_gift ctrl armed state).ctrl ≡ ctrl
+stated_ctrl ctrl armed None = refl
+stated_ctrl ctrl armed (Some state) = refl
+
+gift_ctrl : (nsid ctrl : ℕ) (page : Option Page) → (gift_of nsid ctrl page).ctrl ≡ ctrl
+gift_ctrl nsid ctrl None = refl
+gift_ctrl nsid ctrl (Some page) = stated_ctrl ctrl _ (state_for page nsid)
+
+owner_some : (row : Row) (c : ℕ) → owner_of row ≡ Some c → row.ctrl ≡ c
+owner_some row c e = by (is_given row) e
+  where
+    by : (b : Bool) → (if b then Some row.ctrl else None) ≡ Some c → row.ctrl ≡ c
+    by true f = cc
+    by false f = absurd (none_some f)
+
+opened_owner : (i : Inputs) (ctrl : ℕ) (o : Option Controller) (c : ℕ) → owner_of (opening_row i ctrl o) ≡ Some c → ctrl ≡ c
+opened_owner i ctrl None c e = absurd (none_some e)
+opened_owner i ctrl (Some k) c e = sym (gift_ctrl i.topology.nsid ctrl (opening_page i k)) ∙ owner_some (opening_row i ctrl (Some k)) c e
+
+owner_there : (f : ℕ → Row) → ((x c : ℕ) → owner_of (f x) ≡ Some c → x ≡ c) → (n k : ℕ) (cs : List ℕ) (s c : ℕ)
+    → owner_of (get_or (take n (map f cs ++ replicate k (free_row 0))) s (free_row 0)) ≡ Some c → (s < length cs) × (c ≡ get_or cs s 0)
+owner_there f law zero k cs s c e = absurd (none_some e)
+owner_there f law (suc n) zero [] s c e = absurd (none_some e)
+owner_there f law (suc n) (suc k) [] zero c e = absurd (none_some e)
+owner_there f law (suc n) (suc k) [] (suc s) c e = let r = owner_there f law n k [] s c e in absurd (omega (arith, r.0))
+owner_there f law (suc n) k (x ∷ cs) zero c e = (omega arith, sym (law x c e))
+owner_there f law (suc n) k (x ∷ cs) (suc s) c e = let r = owner_there f law n k cs s c e in (omega (arith, r.0), r.1)
+
+-- no two slots of the opening have the same controller
+pub opening_apart : (i : Inputs) → IsOpened i → (s t ctrl : ℕ) → get_or (map owner_of (opening i).rows) s None ≡ Some ctrl → get_or (map owner_of (opening i).rows) t None ≡ Some ctrl → s ≡ t
+opening_apart i o s t ctrl a b =
+    let opened : ℕ → Row = λ c. opening_row i c (slice_get i.topology.controllers c) in
+    let there : (x : ℕ) → get_or (map owner_of (opening i).rows) x None ≡ Some ctrl → (x < length i.topology.opening) × (ctrl ≡ get_or i.topology.opening x 0) =
+    λ x e. owner_there opened (λ c d. opened_owner i c (slice_get i.topology.controllers c) d) 15 15 i.topology.opening x ctrl (sym (get_or-map owner_of (opening_rows i) x (free_row 0)) ∙ e) in
+    let p = there s a in
+    let q = there t b in
+    elim (cases_eq s t) [
+      | inl is ↦ is
+      | inr apart ↦ elim (cases_lt s t) [
+        | inl low ↦ absurd (o.once s t 0 low q.0 (sym p.1 ∙ q.1))
+        | inr high ↦ absurd (o.once t s 0 (further t s high apart) p.0 (sym q.1 ∙ p.1))
+      ]
+    ]
+  where
+    further : (t s : ℕ) → t ≤ s → (s ≡ t → ⊥) → t < s
+    further t s le apart = grind arith
 
 -- words that say rows
 

@@ -73,6 +73,17 @@ stays_same s t p q = record { flights = p; requests = q }
 stays_both : (s t u : State) → Stays s t → Stays t u → Stays s u
 stays_both s t u one two = record { flights = two.flights ∙ one.flights; requests = two.requests ∙ one.requests }
 
+-- the flights, the requests and those that wait stay
+pub record StaysListed (s t : State) : Type 0 where
+  pub stays : Stays s t
+  pub waiting : t.waiting ≡ s.waiting
+
+listed_same : (s t : State) → t.flights ≡ s.flights → t.requests ≡ s.requests → t.waiting ≡ s.waiting → StaysListed s t
+listed_same s t p q w = record { stays = stays_same s t p q; waiting = w }
+
+listed_both : (s t u : State) → StaysListed s t → StaysListed t u → StaysListed s u
+listed_both s t u one two = record { stays = stays_both s t u one.stays two.stays; waiting = two.waiting ∙ one.waiting }
+
 aloft_stays : (s t : State) → Stays s t → AreAloft s → AreAloft t
 aloft_stays s t stays aloft req sent =
     let it = aloft req (ap (standing req) (sym stays.requests) ∙ sent) in
@@ -96,40 +107,40 @@ stays_change : (at : Place) (s : State) (op : Op) (o : Option Path) → Stays s 
 stays_change at s op None = stays_same s _ refl refl
 stays_change at s op (Some path) = stays_changed at s path op (effect_of path.row op)
 
-stays_given : (at : Place) (s : State) (gift : Gift) (o : Option ℕ) → Stays s (given_in at s gift o).state
-stays_given at s gift None = stays_same s _ refl refl
+stays_given : (at : Place) (s : State) (gift : Gift) (o : Option ℕ) → StaysListed s (given_in at s gift o).state
+stays_given at s gift None = listed_same s _ refl refl refl
 stays_given at s gift (Some slot) =
     elim (cases_Bool (s.order.len == 8)) [
-      | inl full ↦ rw full (stays_same s s refl refl)
-      | inr room ↦ rw room (stays_same s _ refl refl)
+      | inl full ↦ rw full (listed_same s s refl refl refl)
+      | inr room ↦ rw room (listed_same s _ refl refl refl)
     ]
 
-stays_added : (at : Place) (s : State) (gift : Gift) (o : Option ℕ) → Stays s (given_unless at s gift o).state
-stays_added at s gift (Some slot) = stays_same s _ refl refl
+pub stays_added : (at : Place) (s : State) (gift : Gift) (o : Option ℕ) → StaysListed s (given_unless at s gift o).state
+stays_added at s gift (Some slot) = listed_same s _ refl refl refl
 stays_added at s gift None = stays_given at s gift (free_slot s)
 
-stays_marked : (at : Place) (s : State) (o : Option Path) → Stays s (marked at s o).state
-stays_marked at s None = stays_same s _ refl refl
-stays_marked at s (Some path) = stays_same s _ refl refl
+pub stays_marked : (at : Place) (s : State) (o : Option Path) → StaysListed s (marked at s o).state
+stays_marked at s None = listed_same s _ refl refl refl
+stays_marked at s (Some path) = listed_same s _ refl refl refl
 
-stays_unlisted : (at : Place) (s : State) (slots : List ℕ) → Stays s (each (unlisted at) s slots).state
-stays_unlisted at s [] = stays_same s _ refl refl
+stays_unlisted : (at : Place) (s : State) (slots : List ℕ) → StaysListed s (each (unlisted at) s slots).state
+stays_unlisted at s [] = listed_same s _ refl refl refl
 stays_unlisted at s (slot ∷ slots) =
     let t : State = (unlisted at s slot).state in
-    stays_both s t (each (unlisted at) t slots).state (stays_same s t refl refl) (stays_unlisted at t slots)
+    listed_both s t (each (unlisted at) t slots).state (listed_same s t refl refl refl) (stays_unlisted at t slots)
 
-stays_freed : (at : Place) (oldest : ℕ) (o : Option ℕ) (s : State) → Stays s (freed_or_again at oldest o s).state
-stays_freed at oldest None s = stays_same s _ refl refl
-stays_freed at oldest (Some slot) s = stays_same s _ refl refl
+stays_freed : (at : Place) (oldest : ℕ) (o : Option ℕ) (s : State) → StaysListed s (freed_or_again at oldest o s).state
+stays_freed at oldest None s = listed_same s _ refl refl refl
+stays_freed at oldest (Some slot) s = listed_same s _ refl refl refl
 
-stays_reaped : (at : Place) (s : State) (slots : List ℕ) → Stays s (reaped_from at s slots).state
-stays_reaped at s [] = stays_same s _ refl refl
+stays_reaped : (at : Place) (s : State) (slots : List ℕ) → StaysListed s (reaped_from at s slots).state
+stays_reaped at s [] = listed_same s _ refl refl refl
 stays_reaped at s (oldest ∷ others) =
     let gone : List ℕ = filter (is_among (slots_of s.order)) (answers.through_first (is_idle s) (oldest ∷ others)) in
     let t : State = (each (unlisted at) s gone).state in
-    stays_both s t (freed_or_again at oldest (find (is_idle s) (oldest ∷ others)) t).state (stays_unlisted at s gone) (stays_freed at oldest (find (is_idle s) (oldest ∷ others)) t)
+    listed_both s t (freed_or_again at oldest (find (is_idle s) (oldest ∷ others)) t).state (stays_unlisted at s gone) (stays_freed at oldest (find (is_idle s) (oldest ∷ others)) t)
 
-pub stays_reap : (at : Place) (s : State) → Stays s (reaped at s).state
+pub stays_reap : (at : Place) (s : State) → StaysListed s (reaped at s).state
 stays_reap at s = stays_reaped at s s.removals
 
 -- ---- a try
@@ -298,10 +309,10 @@ pub keeps_call : (i : Inputs) (at : Place) (s : State) (c : Call) → IsCallOf a
 keeps_call i at s (submit req) of = keeps_submitted i.topology.near at.lane s req
 keeps_call i at s (finish f) of = subst (λ lane. Keeps lane s (finished i.answers at.lane s f).state) of (keeps_finished i.answers at.lane s f)
 keeps_call i at s (change ctrl op) of = keeps_stays at.lane s _ (stays_change at s op (find (has_ctrl ctrl) (paths_of s)))
-keeps_call i at s (add gift) of = keeps_stays at.lane s _ (stays_added at s gift (slot_with s gift.ctrl))
-keeps_call i at s (remove ctrl) of = keeps_stays at.lane s _ (stays_marked at s (find (λ path. has_ctrl ctrl path && not (is_among s.removals path.slot)) (paths_of s)))
+keeps_call i at s (add gift) of = keeps_stays at.lane s _ (stays_added at s gift (slot_with s gift.ctrl)).stays
+keeps_call i at s (remove ctrl) of = keeps_stays at.lane s _ (stays_marked at s (find (λ path. has_ctrl ctrl path && not (is_among s.removals path.slot)) (paths_of s))).stays
 keeps_call i at s (set_policy policy) of = keeps_stays at.lane s _ (stays_same s _ refl refl)
-keeps_call i at s reap of = keeps_stays at.lane s _ (stays_reap at s)
+keeps_call i at s reap of = keeps_stays at.lane s _ (stays_reap at s).stays
 
 -- a call never changes the numbers
 pub numbers-call : (i : Inputs) (at : Place) (s : State) (c : Call) → numbers (call i at s c).state.requests ≡ numbers s.requests

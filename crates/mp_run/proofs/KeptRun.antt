@@ -171,7 +171,7 @@ rounds_rest i asked (suc n) first rests =
 
 reaps_rest : (asked : List ℕ) (s : State) (slots : List ℕ) → Rests asked s → Rests asked (each (λ t slot. reaped drain_place t) s slots).state
 reaps_rest asked s [] rests = rests
-reaps_rest asked s (slot ∷ slots) rests = reaps_rest asked (reaped drain_place s).state slots (rests_stays asked s (reaped drain_place s).state (stays_reap drain_place s) rests)
+reaps_rest asked s (slot ∷ slots) rests = reaps_rest asked (reaped drain_place s).state slots (rests_stays asked s (reaped drain_place s).state (stays_reap drain_place s).stays rests)
 
 drain_rests : (i : Inputs) (asked : List ℕ) (s : State) → Rests asked s → Rests asked (drain i s).state
 drain_rests i asked s rests =

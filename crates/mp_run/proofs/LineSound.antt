@@ -1,9 +1,10 @@
 -- Lines keep the state sound.
-use Rattle.std.proofs.Common.{◌≡◌, ℕ, ◌-◌, ◌<◌, true, false, nat_lt, ◌==◌, List, [], ◌∷◌, ◌++◌, inl, inr, map, find, count_by, Option, None, Some, Result, Ok, Err, refl, sym, append-nil, eq-eqb, subst}
+use Rattle.std.proofs.Common.{◌≡◌, ℕ, ◌-◌, ◌<◌, true, false, nat_lt, not, ◌==◌, ◌&&◌, List, [], ◌∷◌, ◌++◌, inl, inr, map, find, count_by, Option, None, Some, Result, Ok, Err, refl, sym, append-nil, eq-eqb, subst}
 use Rattle.std.proofs.lemmas.Bool.{cases_Bool}
 use Rattle.mp_checks.specs.Marks.{has}
 use Rattle.mp_words.specs.declared.flight.Flight.{Flight}
 use Rattle.mp_words.specs.declared.path.Path.{Path}
+use Rattle.mp_words.specs.declared.op.Gift.{Gift}
 use Rattle.mp_words.specs.declared.op.Op.{Op}
 use Rattle.mp_words.specs.declared.op.Op.TheVariants as op
 use Rattle.mp_words.specs.declared.op.Effect.{Effect}
@@ -14,30 +15,31 @@ use Rattle.mp_words.specs.PathTable.{has_ctrl}
 use Rattle.mp_record.specs.declared.event.Event.{Event}
 use Rattle.mp_page.specs.declared.page.Page.{Page}
 use Rattle.mp_page.specs.declared.page.PageError.{PageError}
-use Rattle.mp_page.specs.Gifts.{page_at, state_for, changing}
+use Rattle.mp_page.specs.Gifts.{page_at, gift_of, state_for, changing}
 use Rattle.mp_script.specs.declared.script.Line.{Line}
 use Rattle.mp_script.specs.declared.script.Line.TheVariants as line
 use Rattle.mp_script.specs.declared.script.Numbered1.{Numbered1}
 use Rattle.mp_script.specs.Facts.{submit_of}
 use Rattle.mp_script.specs.Distinct.{IsDistinct}
 use Rattle.mp_legal.specs.PlainState.{State, paths_of}
-use Rattle.mp_legal.specs.PlainCall.{Inputs, submit, finish, change, set_policy}
+use Rattle.mp_legal.specs.PlainCall.{Inputs, Call, submit, finish, change, add, remove, set_policy, reap, call}
 use Rattle.mp_legal.specs.PlainChange.{changed, changed_path, changed_by}
 use Rattle.mp_legal.specs.PlainFinish.{finished}
+use Rattle.mp_legal.specs.PlainKeep.{is_among, slot_with}
 use Rattle.mp_legal.specs.PlainLine.{start_of, flights_of, flights_with, by_page, reads_log}
 use Rattle.mp_legal.specs.PlainSubmit.{submitted}
 use Rattle.mp_legal.specs.Stepped.{Place, maker_of}
-use Rattle.mp_legal.specs.Units.{Paid, came_back, each_paid, pay_call, pay_line}
+use Rattle.mp_legal.specs.Units.{Paid, came_back, each_paid, needs, pay_call, pay_line}
 use Rattle.mp_legal.specs.Numbers.{has_req}
 use Rattle.mp_run.specs.declared.engine.Engine.{Engine}
 use Rattle.mp_run.specs.declared.halt.Halt.{Halt}
 use Rattle.mp_run.specs.declared.halt.Halt.TheVariants as halt
 use Rattle.mp_run.specs.Engine.{state_of, left_of, Pays, Leaves}
-use Rattle.mp_script.specs.Facts.{IsSimple}
 use Rattle.mp_run.specs.Sound.{IsSound, AreThere}
-use Rattle.mp_run.proofs.Adds.{sound_add}
+use Rattle.mp_run.proofs.Adds.{sound_add as sound_asked}
 use Rattle.mp_run.proofs.Changes.{not_true, or_true, true_or}
 use Rattle.mp_run.proofs.Ends.{flies_by, sound_entry, sound_finish, there_of, there_rest, there_with_all}
+use Rattle.mp_run.proofs.KeptCalls.{StaysListed, stays_added, stays_marked, stays_reap}
 use Rattle.mp_run.proofs.Tries.{sound_submit}
 
 -- what is left sound
@@ -130,31 +132,57 @@ sound_page : (i : Inputs) (at : Place) (s : State) (left nsid ctrl : ℕ) (found
 sound_page i at s left nsid ctrl (Ok page) sound = sound_changes i at s left ctrl (op.Log (state_for page nsid) (changing page)) sound
 sound_page i at s left nsid ctrl (Err error) sound = sound
 
+-- a call of the keeper's leaves the flights, those that wait and the requests
+pub sound_stays : (s t : State) (others : List ℕ) → StaysListed s t → IsSound s others → IsSound t others
+sound_stays s t others stays sound = record {
+  small = λ r. rw stays.stays.requests (sound.small r);
+  sent = λ l r. rw (stays.stays.flights, stays.stays.requests) (sound.sent l r);
+  home = λ l. rw stays.stays.flights (sound.home l);
+  once = λ l. rw stays.stays.flights (sound.once l);
+  alone = λ l m r. rw stays.stays.flights (sound.alone l m r);
+  waits = λ r. rw (stays.waiting, stays.stays.requests) (sound.waits r);
+  queued = rw stays.waiting sound.queued;
+}
+
+sound_call : (i : Inputs) (at : Place) (s : State) (left : ℕ) (c : Call) → StaysListed s (call i at s c).state → IsSound s [] → IsSound (each_paid (pay_call i at) s left (c ∷ [])).step.state []
+sound_call i at s left c stays sound =
+    elim (cases_Bool (nat_lt left (needs c))) [
+      | inl short ↦ rw short sound
+      | inr enough ↦ rw enough (sound_stays s (call i at s c).state [] stays sound)
+    ]
+
+sound_add : (i : Inputs) (at : Place) (s : State) (left : ℕ) (gift : Gift) → IsSound s [] → IsSound (each_paid (pay_call i at) s left (add gift ∷ [])).step.state []
+sound_add i at s left gift sound = sound_call i at s left (add gift) (stays_added at s gift (slot_with s gift.ctrl)) sound
+
+sound_box : (i : Inputs) (at : Place) (s : State) (left nsid ctrl : ℕ) (found : Result Page PageError) → IsSound s [] → IsSound (pay_line i at left (by_page s found (λ page. add (gift_of nsid ctrl (Some page))))).step.state []
+sound_box i at s left nsid ctrl (Ok page) sound = sound_add i at s left (gift_of nsid ctrl (Some page)) sound
+sound_box i at s left nsid ctrl (Err error) sound = sound
+
 -- a line
-pub sound_line : (i : Inputs) (at : Place) (s : State) (left : ℕ) (l : Line) → IsSound s [] → IsSimple l → ((req : ℕ) → has (submit_of l) req ≡ true → has_req req s.requests ≡ false)
+pub sound_line : (i : Inputs) (at : Place) (s : State) (left : ℕ) (l : Line) → IsSound s [] → ((req : ℕ) → has (submit_of l) req ≡ true → has_req req s.requests ≡ false)
     → ((req : ℕ) → has (submit_of l) req ≡ true → req < 65536) → IsSound (pay_line i at left (start_of i at.lane s l)).step.state []
-sound_line i at s left (line.Submit req node) sound simple fresh small =
+sound_line i at s left (line.Submit req node) sound fresh small =
     let here : has (req ∷ []) req ≡ true = rw (eq-eqb req req refl) refl in
-    sound_submits i at _ left (req ∷ []) (sound_add s req node sound (fresh req here) (small req here))
-sound_line i at s left (line.Finish req) sound simple fresh small = sound_finishes i at s left (flights_with req (flights_of at.lane s)) [] sound (there_with_all s at.lane req [] sound)
-sound_line i at s left line.FinishAll sound simple fresh small = sound_finishes i at s left (flights_of at.lane s) [] sound (there_of s at.lane [] sound)
-sound_line i at s left line.Requeue sound simple fresh small = sound_submits i at (record s { waiting = [] }) left s.waiting (sound_taken s sound)
-sound_line i at s left (line.Log ctrl box) sound simple fresh small = sound_page i at s left i.topology.nsid ctrl (page_at i.pages box) sound
-sound_line i at s left (line.Ctrl ctrl cstate) sound simple fresh small = sound_changes i at s left ctrl (op.Ctrl cstate) sound
-sound_line i at s left (line.Anatt ctrl) sound simple fresh small = sound_changes i at s left ctrl op.Expire sound
-sound_line i at s left (line.Add ctrl box) sound simple fresh small = absurd simple
-sound_line i at s left (line.Remove ctrl) sound simple fresh small = absurd simple
-sound_line i at s left line.Reap sound simple fresh small = absurd simple
-sound_line i at s left (line.Policy policy) sound simple fresh small = sound_policy i at s left policy sound
+    sound_submits i at _ left (req ∷ []) (sound_asked s req node sound (fresh req here) (small req here))
+sound_line i at s left (line.Finish req) sound fresh small = sound_finishes i at s left (flights_with req (flights_of at.lane s)) [] sound (there_with_all s at.lane req [] sound)
+sound_line i at s left line.FinishAll sound fresh small = sound_finishes i at s left (flights_of at.lane s) [] sound (there_of s at.lane [] sound)
+sound_line i at s left line.Requeue sound fresh small = sound_submits i at (record s { waiting = [] }) left s.waiting (sound_taken s sound)
+sound_line i at s left (line.Log ctrl box) sound fresh small = sound_page i at s left i.topology.nsid ctrl (page_at i.pages box) sound
+sound_line i at s left (line.Ctrl ctrl cstate) sound fresh small = sound_changes i at s left ctrl (op.Ctrl cstate) sound
+sound_line i at s left (line.Anatt ctrl) sound fresh small = sound_changes i at s left ctrl op.Expire sound
+sound_line i at s left (line.Add ctrl None) sound fresh small = sound_add i at s left (gift_of i.topology.nsid ctrl None) sound
+sound_line i at s left (line.Add ctrl (Some box)) sound fresh small = sound_box i at s left i.topology.nsid ctrl (page_at i.pages box) sound
+sound_line i at s left (line.Remove ctrl) sound fresh small = sound_call i at s left (remove ctrl) (stays_marked at s (find (λ path. has_ctrl ctrl path && not (is_among s.removals path.slot)) (paths_of s))) sound
+sound_line i at s left line.Reap sound fresh small = sound_call i at s left reap (stays_reap at s) sound
+sound_line i at s left (line.Policy policy) sound fresh small = sound_policy i at s left policy sound
 
 -- a line as it stands in a lane
-pub turn_sound : {T : Type 0} (result : Result T Halt) (i : Inputs) (lane : ℕ) (v n : Numbered1) (a b : Engine) (old new : List Event) → v ≡ n → IsSound (state_of a) [] → IsSimple n.line
+pub turn_sound : {T : Type 0} (result : Result T Halt) (i : Inputs) (lane : ℕ) (v n : Numbered1) (a b : Engine) (old new : List Event) → v ≡ n → IsSound (state_of a) []
     → ((req : ℕ) → has (submit_of n.line) req ≡ true → has_req req (state_of a).requests ≡ false) → ((req : ℕ) → has (submit_of v.line) req ≡ true → req < 65536)
     → Pays result lane (pay_line i (record { lane = lane; line = v.number }) (left_of lane a) (start_of i lane (state_of a) v.line)) a b old new → Leaves result (IsSound (state_of b) [])
-turn_sound result i lane v n a b old new is sound simple fresh small pays =
+turn_sound result i lane v n a b old new is sound fresh small pays =
     let at : Place = record { lane = lane; line = v.number } in
-    let ok : IsSimple v.line = subst (λ (m : Numbered1). IsSimple m.line) (sym is) simple in
     let apart : (req : ℕ) → has (submit_of v.line) req ≡ true → has_req req (state_of a).requests ≡ false =
     subst (λ (m : Numbered1). (req : ℕ) → has (submit_of m.line) req ≡ true → has_req req (state_of a).requests ≡ false) (sym is) fresh in
     leaves_sound result lane (pay_line i at (left_of lane a) (start_of i lane (state_of a) v.line)) a b old new pays
-    (sound_line i at (state_of a) (left_of lane a) v.line sound ok apart small)
+    (sound_line i at (state_of a) (left_of lane a) v.line sound apart small)

@@ -1,6 +1,7 @@
 -- Lines that are paid for.
 use Rattle.std.proofs.Common.{◌≡◌, ℕ, zero, suc, ◌≤◌, List, [], ◌∷◌, ◌++◌, map, length, Option, None, Some, IfSome, IfErr, OnOk, Result, Ok, Err, refl, subst, arith}
 use Rattle.std.specs.List.{slice_get}
+use Rattle.mp_words.specs.declared.op.Gift.{Gift}
 use Rattle.mp_words.specs.declared.op.Op.{Op}
 use Rattle.mp_words.specs.declared.op.Op.TheVariants as op
 use Rattle.mp_record.specs.declared.event.Event.{Event}
@@ -9,25 +10,27 @@ use Rattle.mp_record.specs.declared.event.Said.{Said}
 use Rattle.mp_page.specs.declared.page.Page.{Page}
 use Rattle.mp_page.specs.declared.page.PageError.{PageError}
 use Rattle.mp_page.specs.declared.page.PageError.TheVariants as refusal
-use Rattle.mp_page.specs.Gifts.{page_at, state_for, changing}
+use Rattle.mp_page.specs.Gifts.{page_at, gift_of, state_for, changing}
 use Rattle.mp_core.specs.Kinds.{IsStated}
 use Rattle.mp_legal.specs.PlainState.{State}
 use Rattle.mp_legal.specs.PlainCall.{Inputs, Call}
 use Rattle.mp_legal.specs.PlainChange.{changed}
 use Rattle.mp_legal.specs.PlainCall as call
+use Rattle.mp_legal.specs.PlainKeep.{added}
 use Rattle.mp_legal.specs.PlainLine.{Start, calls, by_page, reads_log, opens, page_said}
 use Rattle.mp_legal.specs.Stepped.{Place, tells}
 use Rattle.mp_legal.specs.Units.{Paid, paid_if, each_paid, pay_call, pay_line}
 use Rattle.mp_run.specs.declared.engine.Engine.{Engine}
 use Rattle.mp_run.specs.declared.halt.Halt.{Halt}
 use Rattle.mp_run.specs.declared.halt.Halt.TheVariants as halt
+use Rattle.mp_run.specs.Calls.{paid_keep}
 use Rattle.mp_run.specs.Engine.{state_of, left_of, IsTied, Goes, Pays}
 use Rattle.mp_run.specs.RequestsView.{RequestsView}
 use Rattle.mp_run.proofs.Steps.{continues_behind, continues_last, continues_pays, goes_says, pays_last}
 
 -- the engine with other requests, and others that wait
 abbrev pub beside : Engine → List ℕ → RequestsView → Engine
-beside a waiting requests = record { plain = a.plain; flights = a.flights; waiting = waiting; requests = requests; made = a.made }
+beside a waiting requests = record { plain = a.plain; keeper = a.keeper; flights = a.flights; waiting = waiting; requests = requests; made = a.made }
 
 -- each lane stands where it stood
 pub tied_beside : (a : Engine) (waiting : List ℕ) (requests : RequestsView) → IsTied a → IsTied (beside a waiting requests)
@@ -36,7 +39,8 @@ tied_beside a waiting requests tied = record {
       record { told = l.told; rows = l.rows; depths = l.depths; currents = l.currents; lanes = l.lanes; lane = l.lane; closed = l.closed; flights = l.flights; counted = l.counted };
   seats = tied.seats;
   now = tied.now;
-  keeps = tied.keeps;
+  keeper = tied.keeper;
+  keeps = let k = tied.keeps in record { order = k.order; within = k.within; owners = k.owners; removals = k.removals; rest = k.rest; flips = k.flips };
 }
 
 -- a line that says this, and then makes its calls
@@ -66,6 +70,14 @@ pub log_pays : {T : Type 0} (result : Result T Halt) (i : Inputs) (at : Place) (
 log_pays result i at nsid ctrl a b found page o old new is op_is pays =
     rw is (call_pays result i at (call.change ctrl (op.Log (state_for page nsid) (changing page))) a b old new
     (subst (λ (x : Op). Pays result at.lane (paid_if 1 1 (changed at (state_of a) ctrl x) (state_of a) (left_of at.lane a)) a b old new) op_is pays))
+
+-- a page that was read gives a path
+pub box_pays : {T : Type 0} (result : Result T Halt) (i : Inputs) (at : Place) (nsid ctrl : ℕ) (a b : Engine) (found : Result Page PageError) (page : Page) (gift : Gift) (old new : List Event)
+    → found ≡ Ok page → gift ≡ gift_of nsid ctrl (Some page) → Pays result at.lane (paid_keep 2 (added at (state_of a) gift) (state_of a) (left_of at.lane a)) a b old new
+    → Pays result at.lane (pay_line i at (left_of at.lane a) (by_page (state_of a) found (λ page. call.add (gift_of nsid ctrl (Some page))))) a b old new
+box_pays result i at nsid ctrl a b found page gift old new is gift_is pays =
+    rw is (call_pays result i at (call.add (gift_of nsid ctrl (Some page))) a b old new
+    (subst (λ (g : Gift). Pays result at.lane (paid_keep 2 (added at (state_of a) g) (state_of a) (left_of at.lane a)) a b old new) gift_is pays))
 
 -- a refused page is what the line says
 pub refused_pays : {T : Type 0} (result : Result T Halt) (i : Inputs) (at : Place) (a : Engine) (found : Result Page PageError) (error : PageError) (made : Page → Call) (said : Said) (old new : List Event)

@@ -14,12 +14,13 @@ use Rattle.mp_legal.specs.PlainSubmit.{submitted}
 use Rattle.mp_legal.specs.PlainLine.{flights_of}
 use Rattle.mp_legal.specs.Stepped.{Stepped, Place, tells}
 use Rattle.mp_legal.specs.Drain.{drain_place, is_sent, most_rounds}
-use Rattle.mp_legal.specs.Units.{Paid, came_back, paid_then, each_paid, pay_call, pay_request, pay_round, pay_rounds, pay_drain}
+use Rattle.mp_legal.specs.Units.{Paid, came_back, paid_then, each_paid, pay_call, pay_request, pay_round, pay_rounds}
 use Rattle.mp_run.specs.declared.engine.Engine.{Engine}
 use Rattle.mp_run.specs.declared.halt.Halt.{Halt}
 use Rattle.mp_run.specs.declared.halt.Halt.TheVariants as halt
 use Rattle.mp_run.specs.Engine.{state_of, left_of, IsTied, IsPaid, Pays}
 use Rattle.mp_run.specs.RequestsView.{RequestsView}
+use Rattle.mp_run.specs.Rounds.{all_rounds}
 use Rattle.mp_run.specs.Sound.{IsSound}
 use Rattle.mp_run.proofs.Ends.{there_of}
 use Rattle.mp_run.proofs.LineSound.{sound_finishes}
@@ -142,10 +143,10 @@ rounds_from i (suc n) first =
 
 -- the first round
 pub rounds_first : (i : Inputs) (n : ℕ) (sent : Bool) (a after : Engine) (old new : List Event) → IsTied a → n ≡ most_rounds i (state_of a) → IsPaid 16 (pay_round i (state_of a) (left_of 16 a)) (Some (left_of 16 after)) a after old new
-    → sent ≡ list_any is_sent (pay_round i (state_of a) (left_of 16 a)).step.events → Continues 16 (pay_drain i (state_of a) (left_of 16 a)) (rounds_after i n sent (state_of after) (left_of 16 after)) a after old new
+    → sent ≡ list_any is_sent (pay_round i (state_of a) (left_of 16 a)).step.events → Continues 16 (all_rounds i (state_of a) (left_of 16 a)) (rounds_after i n sent (state_of after) (left_of 16 after)) a after old new
 rounds_first i n sent a after old new tied is paid says =
     let first : Paid = pay_round i (state_of a) (left_of 16 a) in
-    let all : Paid = pay_drain i (state_of a) (left_of 16 a) in
+    let all : Paid = all_rounds i (state_of a) (left_of 16 a) in
     let b : Bool = list_any is_sent first.step.events in
     let whole : all ≡ paid_then first (rounds_after i n b) = ap (λ m. pay_rounds i m first) (sym is) ∙ rounds_from i n first in
     let start : Continues 16 all (paid_then first (rounds_after i n b)) a a old old = subst (λ (p : Paid). Continues 16 all p a a old old) whole (continues_first 16 all a old tied) in
@@ -153,10 +154,10 @@ rounds_first i n sent a after old new tied is paid says =
     (continues_next 16 all first (rounds_after i n b) a a after old old new start paid)
 
 pub rounds_first_err : {T : Type 0} (result : Result T Halt) (U : Type 0) (e : Halt) (i : Inputs) (a after : Engine) (old new : List Event) → result ≡ Err e → IsTied a
-    → Pays {T = U} (Err e) 16 (pay_round i (state_of a) (left_of 16 a)) a after old new → Pays result 16 (pay_drain i (state_of a) (left_of 16 a)) a after old new
+    → Pays {T = U} (Err e) 16 (pay_round i (state_of a) (left_of 16 a)) a after old new → Pays result 16 (all_rounds i (state_of a) (left_of 16 a)) a after old new
 rounds_first_err result U e i a after old new is tied pays =
     let first : Paid = pay_round i (state_of a) (left_of 16 a) in
-    let all : Paid = pay_drain i (state_of a) (left_of 16 a) in
+    let all : Paid = all_rounds i (state_of a) (left_of 16 a) in
     let n : ℕ = most_rounds i (state_of a) in
     let b : Bool = list_any is_sent first.step.events in
     continues_err result U e 16 all first (rounds_after i n b) a a after old old new is

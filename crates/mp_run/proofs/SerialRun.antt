@@ -19,6 +19,7 @@ use Rattle.mp_legal.specs.Opening.{opening}
 use Rattle.mp_legal.specs.Stepped.{Stepped}
 use Rattle.mp_legal.specs.Turns.{longest, turns_of}
 use Rattle.mp_legal.specs.Units.{Paying, pay_turns, pay_drain, run_drained, run_paid, serial_run, serial_over}
+use Rattle.mp_legal.specs.ToldKeeper.{orders_in}
 use Rattle.mp_run.specs.declared.engine.Engine.{Engine}
 use Rattle.mp_run.specs.Engine.{state_of, left_of, IsPaid}
 use Rattle.mp_run.specs.OnTurns.{TakesAll, all_turns, gathered_run}
@@ -104,19 +105,19 @@ drain_spent allowance i plans a b lanes few is lefts none takes spent =
 
 -- the units were enough
 pub run_made : (allowance : ℕ) (i : Inputs) (plans : List LanePlan) (a b e : Engine) (lanes : List (List Event)) (drained : List Event) (left : ℕ) → length plans ≤ 16 → state_of a ≡ opening i
-    → a.made.rows.items ≡ [] → a.made.orders.items ≡ [] → ((l : ℕ) → l < 17 → left_of l a ≡ allowance) → position is_none (all_turns i plans a).lefts ≡ None → TakesAll i plans a b lanes
+    → a.made.rows.items ≡ [] → orders_in a.keeper.entries ≡ [] → ((l : ℕ) → l < 17 → left_of l a ≡ allowance) → position is_none (all_turns i plans a).lefts ≡ None → TakesAll i plans a b lanes
     → IsPaid 16 (pay_drain i (state_of b) (left_of 16 b)) (Some left) b e [] drained → serial_run allowance i plans ≡ Ok (gathered_run i plans e lanes drained)
 run_made allowance i plans a b e lanes drained left few is rows orders lefts none takes paid =
     let ts : List Taken = (all_turns i plans a).taken in
     let last : Stepped = (pay_drain i (state_of b) (left_of 16 b)).step in
     let row : e.made.rows.items ≡ flat_map (λ (x : Taken). x.step.rows) ts ++ last.rows = paid.goes.rows ∙ ap (λ (es : List RowEntry). es ++ last.rows) (takes.rows ∙ ap (λ (es : List RowEntry). es ++ flat_map (λ (x : Taken). x.step.rows) ts) rows) in
-    let order : e.made.orders.items ≡ flat_map (λ (x : Taken). x.step.orders) ts ++ last.orders = paid.goes.orders ∙ ap (λ (es : List OrderEntry). es ++ last.orders) (takes.orders ∙ ap (λ (es : List OrderEntry). es ++ flat_map (λ (x : Taken). x.step.orders) ts) orders) in
+    let order : orders_in e.keeper.entries ≡ flat_map (λ (x : Taken). x.step.orders) ts ++ last.orders = paid.goes.orders ∙ ap (λ (es : List OrderEntry). es ++ last.orders) (takes.orders ∙ ap (λ (es : List OrderEntry). es ++ flat_map (λ (x : Taken). x.step.orders) ts) orders) in
     let asked : e.requests.asked ≡ last.state.requests = ap (λ (s : State). s.requests) paid.goes.state in
     behind_lanes allowance i plans a b lanes few is lefts none takes ∙ ap (run_drained i plans ts last) paid.paid
     ∙ ap (λ (run : RunView). Ok run) (sym (same_run i plans ts last e lanes drained row order takes.noted paid.goes.noted asked))
   where
     same_run : (i : Inputs) (plans : List LanePlan) (ts : List Taken) (last : Stepped) (e : Engine) (lanes : List (List Event)) (drained : List Event) → e.made.rows.items ≡ flat_map (λ (x : Taken). x.step.rows) ts ++ last.rows
-        → e.made.orders.items ≡ flat_map (λ (x : Taken). x.step.orders) ts ++ last.orders → lanes ≡ map (events_in ts) (range_with_len 0 (length plans)) → drained ≡ last.events → e.requests.asked ≡ last.state.requests
+        → orders_in e.keeper.entries ≡ flat_map (λ (x : Taken). x.step.orders) ts ++ last.orders → lanes ≡ map (events_in ts) (range_with_len 0 (length plans)) → drained ≡ last.events → e.requests.asked ≡ last.state.requests
         → gathered_run i plans e lanes drained ≡ run_of i plans ts last
     same_run i plans ts last e lanes drained row order noted said asked = rw (row, order, noted, said, asked) refl
 

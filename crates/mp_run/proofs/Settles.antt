@@ -1,4 +1,4 @@
--- All flights of a lane are ended, and each node's current path is made none.
+-- All flights of a lane are ended.
 use Rattle.std.proofs.Common.{◌≡◌, ℕ, zero, suc, ◌+◌, ◌-◌, ◌<◌, ◌≤◌, ◌==◌, true, false, cond, List, [], ◌∷◌, ◌++◌, length, take, drop, get_or, set, count_by, Option, Some, None, option_map, inl, inr, refl, sym, ap, ◌∙◌, subst, arith, eq-eqb, get_or-set_same, get_or-set_other}
 use Rattle.std.specs.List.{list_any, sum_by}
 use Rattle.std.proofs.lemmas.Bool.{cases_eq}
@@ -9,39 +9,15 @@ use Rattle.mp_words.specs.declared.flight.Flight.{Flight}
 use Rattle.mp_words.proofs.Places.{cases_lt}
 use Rattle.mp_core.specs.declared.view.Held.{Held}
 use Rattle.mp_core.specs.Core.{Core, stepped}
-use Rattle.mp_core.specs.Kinds.{Lands, EmptiesCurrent}
-use Rattle.mp_core.specs.Memory.{Memory, depth_at, landed_in, current_in}
-use Rattle.mp_core.specs.Views.{is_flight, flights_without, landed, has_flight, passed}
-use Rattle.mp_change.specs.Clears.{emptied_upto_in}
+use Rattle.mp_core.specs.Kinds.{Lands}
+use Rattle.mp_core.specs.Memory.{Memory, depth_at, landed_in}
+use Rattle.mp_core.specs.Views.{is_flight, flights_without, landed, has_flight}
 use Rattle.mp_legal.specs.ToldState.{Beside, IsAt}
-use Rattle.mp_run.specs.Calls.{Empties, EndsEach, landed_all}
-
-map_both : (f g : Memory → Memory) (t : Option Memory) → option_map f (option_map g t) ≡ option_map (λ m. f (g m)) t
-map_both f g None = refl
-map_both f g (Some m) = refl
+use Rattle.mp_run.specs.Calls.{EndsEach, landed_all}
 
 map_same : (t : Option Memory) → t ≡ option_map (λ m. m) t
 map_same None = refl
 map_same (Some m) = refl
-
--- the current words
-
-pub empties_none : (a : Core) → Empties 0 a a
-empties_none a = record { after = λ i. record a { told = map_same a.told i } }
-
--- what a pass knows where its keeper's part holds this and the words are these
-abbrev holding : Option Held → Option Memory → Core → Core
-holding last told a = record a { view = record (a.view) { keeping = record (a.view.keeping) { last = last } }; told = told }
-
-pub empties_more : (n node : ℕ) (a b c : Core) → node ≡ n → Empties n a b → EmptiesCurrent b c node → Empties (n + 1) a c
-empties_more n node a b c is h k =
-    let e : suc n ≡ n + 1 = omega arith in
-    let told : option_map (current_in n None) (option_map (emptied_upto_in n) a.told) ≡ option_map (emptied_upto_in (n + 1)) a.told =
-    map_both (current_in n None) (emptied_upto_in n) a.told ∙ ap (λ x. option_map (emptied_upto_in x) a.told) e in
-    let step : c ≡ holding None (option_map (emptied_upto_in (n + 1)) a.told) a =
-    k.after ∙ ap (λ x. stepped passed (current_in x None) b) is ∙ ap (stepped passed (current_in n None)) h.after ∙ ap (λ t. holding None t a) told in
-    let held : None ≡ c.view.keeping.last = sym (ap (λ (z : Core). z.view.keeping.last) step) in
-    record { after = step ∙ ap (λ l. holding l (option_map (emptied_upto_in (n + 1)) a.told) a) held }
 
 -- the flights
 

@@ -9,6 +9,7 @@ use Rattle.mp_record.specs.declared.event.Said.{Said}
 use Rattle.mp_legal.specs.PlainState.{State}
 use Rattle.mp_legal.specs.Stepped.{Stepped, tells, joined}
 use Rattle.mp_legal.specs.Units.{Paid, paid_then, paid_if}
+use Rattle.mp_legal.specs.ToldKeeper.{orders_in}
 use Rattle.mp_run.specs.declared.engine.Engine.{Engine}
 use Rattle.mp_run.specs.declared.halt.Halt.{Halt}
 use Rattle.mp_run.specs.declared.halt.Halt.TheVariants as halt
@@ -46,7 +47,7 @@ paid_state lane needed used step s left rest a b old new paid =
 pub record Continues (lane : ℕ) (all rest : Paid) (a now : Engine) (old mid : List Event) : Type 0 where
   pub state : rest.step.state ≡ all.step.state
   pub rows : now.made.rows.items ++ rest.step.rows ≡ a.made.rows.items ++ all.step.rows
-  pub orders : now.made.orders.items ++ rest.step.orders ≡ a.made.orders.items ++ all.step.orders
+  pub orders : orders_in now.keeper.entries ++ rest.step.orders ≡ orders_in a.keeper.entries ++ all.step.orders
   pub noted : mid ++ rest.step.events ≡ old ++ all.step.events
   pub left : rest.left ≡ all.left
   pub tied : IsTied now
@@ -62,7 +63,7 @@ continues_behind lane opened rest a now old noted goes tied lefts =
     record {
       state = refl;
       rows = ap (λ (es : List RowEntry). es ++ rest.step.rows) goes.rows ∙ append_assoc a.made.rows.items opened.rows rest.step.rows;
-      orders = ap (λ (es : List OrderEntry). es ++ rest.step.orders) goes.orders ∙ append_assoc a.made.orders.items opened.orders rest.step.orders;
+      orders = ap (λ (es : List OrderEntry). es ++ rest.step.orders) goes.orders ∙ append_assoc (orders_in a.keeper.entries) opened.orders rest.step.orders;
       noted = ap (λ (es : List Event). es ++ rest.step.events) goes.noted ∙ append_assoc old opened.events rest.step.events;
       left = refl;
       tied = tied;
@@ -70,10 +71,10 @@ continues_behind lane opened rest a now old noted goes tied lefts =
     }
 
 -- where something is said, nothing else is done
-pub goes_says : (s : State) (line : ℕ) (said : Said) (a now : Engine) (old noted : List Event) → state_of now ≡ s → now.made.rows.items ≡ a.made.rows.items → now.made.orders.items ≡ a.made.orders.items
+pub goes_says : (s : State) (line : ℕ) (said : Said) (a now : Engine) (old noted : List Event) → state_of now ≡ s → now.made.rows.items ≡ a.made.rows.items → orders_in now.keeper.entries ≡ orders_in a.keeper.entries
     → noted ≡ old ++ At line said ∷ [] → Goes (tells s (At line said ∷ [])) a now old noted
 goes_says s line said a now old noted state rows orders events =
-    record { state = state; rows = rows ∙ sym (append-nil a.made.rows.items); orders = orders ∙ sym (append-nil a.made.orders.items); noted = events }
+    record { state = state; rows = rows ∙ sym (append-nil a.made.rows.items); orders = orders ∙ sym (append-nil (orders_in a.keeper.entries)); noted = events }
 
 -- a call more
 pub continues_next : (lane : ℕ) (all p : Paid) (next : State → ℕ → Paid) (a now after : Engine) (old noted new : List Event)
@@ -87,7 +88,7 @@ continues_next lane all p next a now after old noted new on paid =
     rw goes.state (record {
       state = here.state;
       rows = ap (λ (es : List RowEntry). es ++ rest.step.rows) goes.rows ∙ append_assoc now.made.rows.items p.step.rows rest.step.rows ∙ here.rows;
-      orders = ap (λ (es : List OrderEntry). es ++ rest.step.orders) goes.orders ∙ append_assoc now.made.orders.items p.step.orders rest.step.orders ∙ here.orders;
+      orders = ap (λ (es : List OrderEntry). es ++ rest.step.orders) goes.orders ∙ append_assoc (orders_in now.keeper.entries) p.step.orders rest.step.orders ∙ here.orders;
       noted = ap (λ (es : List Event). es ++ rest.step.events) goes.noted ∙ append_assoc noted p.step.events rest.step.events ∙ here.noted;
       left = here.left;
       tied = paid.tied;
@@ -132,7 +133,7 @@ continues_last lane all a now old new on =
       goes = record {
         state = on.state;
         rows = sym (append-nil now.made.rows.items) ∙ on.rows;
-        orders = sym (append-nil now.made.orders.items) ∙ on.orders;
+        orders = sym (append-nil (orders_in now.keeper.entries)) ∙ on.orders;
         noted = sym (append-nil new) ∙ on.noted;
       };
       paid = sym on.left;

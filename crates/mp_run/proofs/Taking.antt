@@ -11,6 +11,7 @@ use Rattle.mp_legal.specs.PlainLine.{flights_of}
 use Rattle.mp_legal.specs.Stepped.{Stepped}
 use Rattle.mp_legal.specs.Numbers.{has_flight}
 use Rattle.mp_legal.specs.Units.{Paid, settled, pay_turn}
+use Rattle.mp_legal.specs.ToldKeeper.{orders_in}
 use Rattle.mp_run.specs.declared.engine.Engine.{Engine}
 use Rattle.mp_run.specs.Engine.{state_of, left_of, IsPaid, IsTied}
 use Rattle.mp_run.specs.Sound.{IsSound, AreOf}
@@ -60,7 +61,7 @@ paid_on lane p a b old new paid = rw (settled_paid lane p.step p.left (left_of l
 
 -- a lane that is spent by the turn, and settled
 pub paid_out : (lane : ℕ) (p : Paid) (a b c : Engine) (old new : List Event) → lane < 17 → IsPaid lane p None a b old new → state_of c ≡ without lane (state_of b)
-    → c.made.rows.items ≡ b.made.rows.items → c.made.orders.items ≡ b.made.orders.items → IsTied c → ((other : ℕ) → other < 17 → left_of other c ≡ left_of other b)
+    → c.made.rows.items ≡ b.made.rows.items → orders_in c.keeper.entries ≡ orders_in b.keeper.entries → IsTied c → ((other : ℕ) → other < 17 → left_of other c ≡ left_of other b)
     → IsPaid lane (settled lane p) (left_if true lane c) a c old new
 paid_out lane p a b c old new lt paid state rows orders tied lefts =
     let goes = paid.goes in
@@ -77,7 +78,7 @@ paid_out lane p a b c old new lt paid state rows orders tied lefts =
 pub takes_none : (i : Inputs) (lane : ℕ) (line : Option Numbered1) (spent : List Bool) (e : Engine) (old : List Event) → get_or spent lane false ≡ true → IsTied e
     → Takes lane (pay_turn i lane (state_of e) line (left_or spent lane e)) spent spent e e old old
 takes_none i lane line spent e old is tied = rw is (record {
-  goes = record { state = refl; rows = sym (append-nil e.made.rows.items); orders = sym (append-nil e.made.orders.items); noted = sym (append-nil old) };
+  goes = record { state = refl; rows = sym (append-nil e.made.rows.items); orders = sym (append-nil (orders_in e.keeper.entries)); noted = sym (append-nil old) };
   left = rw is refl;
   tied = tied;
   others = λ other low apart. refl;

@@ -12,9 +12,8 @@ use Rattle.mp_script.specs.declared.script.Numbered1.{Numbered1}
 use Rattle.mp_legal.specs.Turns.{Turn, turn_in, line_turn, round_of, longest, turns_of}
 use Rattle.mp_script.specs.Distinct.{IsDistinct}
 use Rattle.mp_run.specs.LaneTurns.{submit_in, turns_submits}
-use Rattle.mp_script.specs.declared.script.Script.{Script}
-use Rattle.mp_script.specs.Facts.{AreSimple, IsBuilt, submit_of, submits_of, submits_in}
-use Rattle.mp_run.specs.OnTurns.{AreSimpleTurns}
+use Rattle.mp_script.specs.Facts.{submit_of, submits_of, submits_in}
+use Rattle.mp_run.specs.OnTurns.{AreTurnsOf}
 use Rattle.mp_run.proofs.ByNumber.{or_false}
 use Rattle.mp_run.proofs.Changes.{not_true}
 
@@ -38,40 +37,37 @@ shorter_from (p ∷ plans) m =
 pub shorter : (plans : List LanePlan) → AllByRecursion (λ plan. length plan.lines ≤ longest plans) plans
 shorter plans = (shorter_from plans 0).1
 
--- ---- all turns are simple
+-- ---- each turn is of a lane
 
-simple-append : (n : ℕ) (xs ys : List Turn) → AreSimpleTurns n xs → AreSimpleTurns n ys → AreSimpleTurns n (xs ++ ys)
-simple-append n [] ys p q = q
-simple-append n (x ∷ xs) ys p q = (p.0, p.1, simple-append n xs ys p.2 q)
+of-append : (n : ℕ) (xs ys : List Turn) → AreTurnsOf n xs → AreTurnsOf n ys → AreTurnsOf n (xs ++ ys)
+of-append n [] ys p q = q
+of-append n (x ∷ xs) ys p q = (p.0, of-append n xs ys p.1 q)
 
-line_simple : (n lane : ℕ) (lines : List Numbered1) (round : ℕ) → lane < n → AreSimple lines → AreSimpleTurns n (line_turn lane (slice_get lines round))
-line_simple n lane [] round lt simple = tt
-line_simple n lane (l ∷ lines) zero lt simple = (lt, simple.0, tt)
-line_simple n lane (l ∷ lines) (suc round) lt simple = line_simple n lane lines round lt simple.1
+line_of : (n lane : ℕ) (lines : List Numbered1) (round : ℕ) → lane < n → AreTurnsOf n (line_turn lane (slice_get lines round))
+line_of n lane [] round lt = tt
+line_of n lane (l ∷ lines) zero lt = (lt, tt)
+line_of n lane (l ∷ lines) (suc round) lt = line_of n lane lines round lt
 
-turn_simple : (n round lane : ℕ) (plan : LanePlan) → lane < n → AreSimple plan.lines → AreSimpleTurns n (turn_in round (lane, plan))
-turn_simple n round lane plan lt simple =
+turn_of : (n round lane : ℕ) (plan : LanePlan) → lane < n → AreTurnsOf n (turn_in round (lane, plan))
+turn_of n round lane plan lt =
     elim (cases_Bool (round == length plan.lines)) [
-      | inl on ↦ rw on (lt, tt, tt)
-      | inr off ↦ rw off (line_simple n lane plan.lines round lt simple)
+      | inl on ↦ rw on (lt, tt)
+      | inr off ↦ rw off (line_of n lane plan.lines round lt)
     ]
 
-round_simple : (n round k : ℕ) (plans : List LanePlan) → k + length plans ≤ n → AllByRecursion (λ plan. AreSimple plan.lines) plans → AreSimpleTurns n (flat_map (turn_in round) (enumerate_from k plans))
-round_simple n round k [] le simple = tt
-round_simple n round k (p ∷ plans) le simple =
-    simple-append n (turn_in round (k, p)) (flat_map (turn_in round) (enumerate_from (k + 1) plans)) (turn_simple n round k p (omega arith) simple.0)
-    (round_simple n round (k + 1) plans (omega arith) simple.1)
+round_of_lanes : (n round k : ℕ) (plans : List LanePlan) → k + length plans ≤ n → AreTurnsOf n (flat_map (turn_in round) (enumerate_from k plans))
+round_of_lanes n round k [] le = tt
+round_of_lanes n round k (p ∷ plans) le =
+    of-append n (turn_in round (k, p)) (flat_map (turn_in round) (enumerate_from (k + 1) plans)) (turn_of n round k p (omega arith))
+    (round_of_lanes n round (k + 1) plans (omega arith))
 
-rounds_simple : (n : ℕ) (plans : List LanePlan) (rounds : List ℕ) → length plans ≤ n → AllByRecursion (λ plan. AreSimple plan.lines) plans → AreSimpleTurns n (flat_map (round_of plans) rounds)
-rounds_simple n plans [] le simple = tt
-rounds_simple n plans (r ∷ rounds) le simple =
-    simple-append n (round_of plans r) (flat_map (round_of plans) rounds) (round_simple n r 0 plans (omega arith) simple) (rounds_simple n plans rounds le simple)
+rounds_of_lanes : (n : ℕ) (plans : List LanePlan) (rounds : List ℕ) → length plans ≤ n → AreTurnsOf n (flat_map (round_of plans) rounds)
+rounds_of_lanes n plans [] le = tt
+rounds_of_lanes n plans (r ∷ rounds) le =
+    of-append n (round_of plans r) (flat_map (round_of plans) rounds) (round_of_lanes n r 0 plans (omega arith)) (rounds_of_lanes n plans rounds le)
 
-simple_turns : (plans : List LanePlan) → AllByRecursion (λ plan. AreSimple plan.lines) plans → AreSimpleTurns (length plans) (turns_of plans)
-simple_turns plans simple = rounds_simple (length plans) plans (range_with_len 0 (longest plans + 1)) (omega arith) simple
-
-pub turns_simple : (script : Script) → IsBuilt script → AreSimpleTurns (length script.lanes) (turns_of script.lanes)
-turns_simple script built = simple_turns script.lanes built.simple
+pub turns_of_lanes : (plans : List LanePlan) → AreTurnsOf (length plans) (turns_of plans)
+turns_of_lanes plans = rounds_of_lanes (length plans) plans (range_with_len 0 (longest plans + 1)) (omega arith)
 
 -- ---- all turns submit what the lanes submit
 

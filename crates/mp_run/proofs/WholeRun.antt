@@ -19,6 +19,7 @@ use Rattle.mp_legal.specs.PlainCall.{Inputs}
 use Rattle.mp_legal.specs.PlainRun.{Taken, events_in, rows_in}
 use Rattle.mp_legal.specs.Opening.{opening, opening_rows, opening_row, opening_entry, first_order}
 use Rattle.mp_legal.specs.Turns.{turns_of}
+use Rattle.mp_legal.specs.ToldKeeper.{orders_in}
 use Rattle.mp_run.specs.declared.engine.Engine.{Engine}
 use Rattle.mp_run.specs.Engine.{left_of}
 use Rattle.mp_run.specs.OnTurns.{IsOn, TakesAll, all_turns, gathered_run, stage_of}
@@ -34,7 +35,7 @@ rows-length i =
 
 -- a run of these parts
 pub gathered_is : (i : Inputs) (plans : List LanePlan) (e : Engine) (lanes old : List (List Event)) (drained : List Event) (keeper : Option ℕ) (rows : List (List RowEntry)) (keeping : List KeepEntry) (requests : List Asked)
-    → keeper ≡ position (λ plan. plan.keeper) plans → rows ≡ map (rows_in e.made.rows.items) (map opening_entry (enumerate_from 0 (opening i).rows)) → keeping ≡ map keep.Order (first_order i ∷ e.made.orders.items) → lanes ≡ old → requests ≡ e.requests.asked
+    → keeper ≡ position (λ plan. plan.keeper) plans → rows ≡ map (rows_in e.made.rows.items) (map opening_entry (enumerate_from 0 (opening i).rows)) → keeping ≡ map keep.Order (first_order i ∷ orders_in e.keeper.entries) → lanes ≡ old → requests ≡ e.requests.asked
     → ◌≡◌ {A = RunView} (record { nsid = i.topology.nsid; keeper = keeper; rows = rows; keeping = keeping; lanes = lanes; drain = drained; requests = requests }) (gathered_run i plans e old drained)
 gathered_is i plans e lanes old drained keeper rows keeping requests k r o l q = rw (k, r, o, l, q) refl
 
@@ -56,7 +57,7 @@ pub takes_all : (i : Inputs) (plans : List LanePlan) (a b : Engine) (spent : Lis
 takes_all i plans a b spent old lanes blanks len on drain = record {
   state = on.state;
   rows = sym (append-nil b.made.rows.items) ∙ on.rows;
-  orders = sym (append-nil b.made.orders.items) ∙ on.orders;
+  orders = sym (append-nil (orders_in b.keeper.entries)) ∙ on.orders;
   noted = lanes_are (all_turns i plans a).taken (length plans) lanes len (λ lane. on.noted lane ∙ ap (λ (ls : List (List Event)). get_or ls lane [] ++ events_in (all_turns i plans a).taken lane) blanks);
   drain = drain;
 }

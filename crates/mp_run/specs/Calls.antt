@@ -1,14 +1,19 @@
 -- What the parts of the engine's calls do.
-use Rattle.std.specs.Prelude.{◌≡◌, ℕ, ◌++◌, ◌∷◌, false, List, [], slice_index_or, slice_set, option_map}
+use Rattle.std.specs.Prelude.{◌≡◌, ℕ, ◌+◌, ◌++◌, ◌∷◌, false, List, [], length, slice_index_or, slice_set, option_map, Result, Ok, Err}
+use Rattle.mp_words.specs.declared.entry.RowEntry.{RowEntry}
 use Rattle.mp_words.specs.declared.flight.Flight.{Flight}
 use Rattle.mp_words.specs.declared.trying.TryEnd.{TryEnd}
 use Rattle.mp_words.specs.declared.trying.TryEnd.TheVariants as end
 use Rattle.mp_core.specs.Core.{Core}
 use Rattle.mp_core.specs.Memory.{Memory, landed_in}
-use Rattle.mp_change.specs.Clears.{emptied_upto_in}
+use Rattle.mp_keep.specs.declared.remove_error.RemoveError.{RemoveError}
+use Rattle.mp_keep.specs.declared.remove_error.RemoveError.TheVariants.{NoPath, Moved}
 use Rattle.mp_submit.specs.declared.submit.Submitted.{Submitted}
 use Rattle.mp_submit.specs.declared.submit.Submitted.TheVariants.{Sent, Listed, Failed}
 use Rattle.mp_legal.specs.Numbers.{has_flight}
+use Rattle.mp_legal.specs.PlainState.{State}
+use Rattle.mp_legal.specs.Stepped.{Stepped}
+use Rattle.mp_legal.specs.Units.{Paid, paid_if}
 
 -- how the try of a submit ended that was answered so
 abbrev pub ended_by : Submitted → TryEnd
@@ -34,9 +39,15 @@ FliesNot (Sent f) flights = has_flight f.req flights ≡ false
 FliesNot Listed flights = Unit {0}
 FliesNot Failed flights = Unit {0}
 
--- The current words of the first nodes were made none, and nothing else was done.
-pub record Empties (upto : ℕ) (a b : Core) : Type 0 where
-  pub after : b ≡ record a { view = record (a.view) { keeping = record (a.view.keeping) { last = b.view.keeping.last } }; told = option_map (emptied_upto_in upto) a.told }
+-- what was paid for of a call of the keeper's that needs so many units: it uses one for each entry
+abbrev pub paid_keep : ℕ → Stepped → State → ℕ → Paid
+paid_keep needs step s left = paid_if needs (length step.rows + length step.orders) step s left
+
+-- The row that was to be marked has moved.
+abbrev pub HasMoved : Result RowEntry RemoveError → Type 0
+HasMoved (Ok entry) = ⊥
+HasMoved (Err (NoPath order)) = ⊥
+HasMoved (Err (Moved row)) = Unit {0}
 
 -- the words after these flights ended
 abbrev pub landed_all : List Flight → Memory → Memory

@@ -1,35 +1,36 @@
 -- The engine against the plain run.
-use Rattle.std.specs.Prelude.{◌≡◌, ◌<◌, ℕ, List, [], ◌∷◌, ◌++◌, length, Result, Ok, Err, Option, Some, None}
+use Rattle.std.specs.Prelude.{◌≡◌, ◌<◌, ℕ, List, ◌++◌, map, length, Result, Ok, Err, Option, Some, None}
 use Rattle.mp_record.specs.declared.event.Event.{Event}
 use Rattle.mp_core.specs.Core.{Core}
 use Rattle.mp_core.specs.Seats.{turned}
 use Rattle.mp_core.specs.Unpacked.{unpacked}
 use Rattle.mp_plain.specs.Lanes.{begun}
 use Rattle.mp_plain.specs.Told.{told_core}
+use Rattle.mp_keep.specs.Keeper.{StandsTo}
 use Rattle.mp_run.specs.declared.engine.Engine.{Engine}
 use Rattle.mp_run.specs.declared.halt.Halt.{Halt}
 use Rattle.mp_run.specs.declared.halt.Halt.TheVariants as halt
 use Rattle.mp_legal.specs.PlainState.{State}
 use Rattle.mp_legal.specs.Stepped.{Stepped}
+use Rattle.mp_legal.specs.ToldKeeper.{KeepsAt, orders_in}
 use Rattle.mp_legal.specs.ToldState.{Beside, IsAt, state_in}
 use Rattle.mp_legal.specs.Units.{Paid, pay_line}
 use Rattle.mp_legal.specs.Inputs.{inputs_for}
 use Rattle.mp_legal.specs.PlainLine.{Start}
 use Rattle.mp_script.specs.declared.script.Script.{Script}
 use Rattle.mp_script.specs.declared.script.World.{World}
-use Rattle.mp_run.specs.Keeping.{KeepsOrder}
 
 -- what a lane knows at its turn
 abbrev pub core_for : ℕ → Engine → Core
 core_for lane e = turned (begun (told_core e.plain).view.keeping.start) lane (told_core e.plain) (unpacked e.plain.words)
 
--- what the engine has beside the words; no removal is under way
+-- what the engine has beside the words
 abbrev pub beside_of : Engine → Beside
 beside_of e = record {
   flights = e.flights.items;
   waiting = e.waiting;
-  removals = [];
-  flips = 0;
+  removals = map (λ r. r.slot) e.keeper.removals;
+  flips = e.keeper.flips;
   requests = e.requests.asked;
   reads = e.requests.noted;
 }
@@ -42,19 +43,20 @@ state_of e = state_in (unpacked e.plain.words) (beside_of e)
 abbrev pub left_of : ℕ → Engine → ℕ
 left_of lane e = (core_for lane e).view.left
 
--- Between two calls each lane stands on the engine's words and flights, and what the keeper's sequence says of the list
--- of paths is so.
+-- Between two calls each lane stands on the engine's words and flights, and the keeper stands to its steps and agrees
+-- with the plain state.
 pub record IsTied (e : Engine) : Type 0 where
   pub lanes : (lane : ℕ) → lane < 17 → IsAt (core_for lane e) (unpacked e.plain.words) (beside_of e)
   pub seats : length (told_core e.plain).others ≡ 17
   pub now : (told_core e.plain).lane < 17
-  pub keeps : KeepsOrder (unpacked e.plain.words) (told_core e.plain).view
+  pub keeper : StandsTo e.keeper (told_core e.plain).view
+  pub keeps : KeepsAt e.keeper (state_of e)
 
 -- A step leads to the engine's state, and what it makes and says was added to what was there.
 pub record Goes (step : Stepped) (a b : Engine) (old new : List Event) : Type 0 where
   pub state : state_of b ≡ step.state
   pub rows : b.made.rows.items ≡ a.made.rows.items ++ step.rows
-  pub orders : b.made.orders.items ≡ a.made.orders.items ++ step.orders
+  pub orders : orders_in b.keeper.entries ≡ orders_in a.keeper.entries ++ step.orders
   pub noted : new ≡ old ++ step.events
 
 -- A lane went as far as it was paid for: no other lane's units changed.

@@ -52,7 +52,6 @@ help_text =
     ++ codes "             controller without ANA, or none for one with it\n"
     ++ codes "  Repeat     a request submitted, an attempt answered or a keeper's lane begun a second time\n"
     ++ codes "  Limit      more than 65536 lines, or more than 16 lanes\n"
-    ++ codes "  NotBuilt   this version doesn't run the lines `add`, `remove` and `reap`\n"
     ++ codes "\n"
     ++ codes "`boxes refused WORD N`: N is the offset of the box in the file, in bytes from 0.\n"
     ++ codes "  TooMany    more than 1024 boxes; no number follows\n"

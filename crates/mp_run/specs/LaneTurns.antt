@@ -4,7 +4,7 @@ use Rattle.std.specs.List.{flat_map}
 use Rattle.mp_script.specs.declared.script.Numbered1.{Numbered1}
 use Rattle.mp_run.specs.declared.turns.LaneTurn.{LaneTurn}
 use Rattle.mp_legal.specs.Turns.{Turn}
-use Rattle.mp_script.specs.Facts.{submit_of, IsSimple}
+use Rattle.mp_script.specs.Facts.{submit_of}
 
 -- the turn
 abbrev pub turn_of : LaneTurn → Turn
@@ -18,8 +18,3 @@ submit_in (Some l) = submit_of l.line
 -- the requests that turns submit, in order
 abbrev pub turns_submits : List Turn → List ℕ
 turns_submits turns = flat_map (λ t. submit_in t.line) turns
-
--- the turn is an end, or a line that is none of `add`, `remove` and `reap`
-abbrev pub IsSimpleTurn : Option Numbered1 → Type 0
-IsSimpleTurn None = Unit {0}
-IsSimpleTurn (Some l) = IsSimple l.line

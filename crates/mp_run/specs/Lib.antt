@@ -1,7 +1,6 @@
 -- What the engine keeps against the plain run, and what the top call answers.
 pub mod Notes
 pub mod RequestsView
-pub mod Keeping
 pub mod Requesting
 pub mod Calls
 pub mod Engine
@@ -12,6 +11,7 @@ pub mod World
 pub mod OpeningSlots
 pub mod FirstMemory
 pub mod OnTurns
+pub mod Rounds
 pub mod Gathered
 pub mod LastRound
 pub mod Quiet

@@ -11,17 +11,17 @@ use Rattle.mp_legal.specs.PlainState.{State}
 use Rattle.mp_legal.specs.PlainCall.{Inputs}
 use Rattle.mp_legal.specs.PlainRun.{state_after, events_in, rows_in}
 use Rattle.mp_legal.specs.Opening.{opening, opening_entry, first_order}
+use Rattle.mp_legal.specs.ToldKeeper.{orders_in}
 use Rattle.mp_legal.specs.Turns.{Turn, turns_of}
 use Rattle.mp_legal.specs.Units.{Paying, pay_turns}
 use Rattle.mp_run.specs.declared.engine.Engine.{Engine}
 use Rattle.mp_run.specs.Engine.{state_of, left_of}
-use Rattle.mp_run.specs.LaneTurns.{IsSimpleTurn}
 use Rattle.mp_run.specs.Taking.{lefts_or}
 
--- each turn is of one of so many lanes, and is an end or a line that is none of `add`, `remove` and `reap`
-abbrev pub AreSimpleTurns : ℕ → List Turn → Type 0
-AreSimpleTurns lanes [] = Unit {0}
-AreSimpleTurns lanes (t ∷ turns) = (t.lane < lanes) × IsSimpleTurn t.line × AreSimpleTurns lanes turns
+-- each turn is of one of so many lanes
+abbrev pub AreTurnsOf : ℕ → List Turn → Type 0
+AreTurnsOf lanes [] = Unit {0}
+AreTurnsOf lanes (t ∷ turns) = (t.lane < lanes) × AreTurnsOf lanes turns
 
 -- How far turns have come: the state, the units that each lane has left, the entries made, and what each lane noted.
 pub record Stage : Type 0 where
@@ -37,7 +37,7 @@ stage_of spent e count lanes = record {
   state = state_of e;
   lefts = lefts_or count spent e;
   rows = e.made.rows.items;
-  orders = e.made.orders.items;
+  orders = orders_in e.keeper.entries;
   lanes = lanes;
 }
 
@@ -61,7 +61,7 @@ all_turns i plans e = pay_turns i (state_of e) (lefts_or (length plans) (replica
 pub record TakesAll (i : Inputs) (plans : List LanePlan) (a b : Engine) (lanes : List (List Event)) : Type 0 where
   pub state : state_of b ≡ state_after (state_of a) (all_turns i plans a).taken
   pub rows : b.made.rows.items ≡ a.made.rows.items ++ flat_map (λ x. x.step.rows) (all_turns i plans a).taken
-  pub orders : b.made.orders.items ≡ a.made.orders.items ++ flat_map (λ x. x.step.orders) (all_turns i plans a).taken
+  pub orders : orders_in b.keeper.entries ≡ orders_in a.keeper.entries ++ flat_map (λ x. x.step.orders) (all_turns i plans a).taken
   pub noted : lanes ≡ map (events_in (all_turns i plans a).taken) (range_with_len 0 (length plans))
   pub drain : left_of 16 b ≡ left_of 16 a
 
@@ -71,7 +71,7 @@ gathered_run i plans e lanes drained = record {
   nsid = i.topology.nsid;
   keeper = position (λ plan. plan.keeper) plans;
   rows = map (rows_in e.made.rows.items) (map opening_entry (enumerate_from 0 (opening i).rows));
-  keeping = map keep.Order (first_order i ∷ e.made.orders.items);
+  keeping = map keep.Order (first_order i ∷ orders_in e.keeper.entries);
   lanes = lanes;
   drain = drained;
   requests = e.requests.asked;

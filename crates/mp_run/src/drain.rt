@@ -1,12 +1,13 @@
 //! What is done once every lane has ended.
 
-ghost use Rattle.std.specs.Prelude.{◌≡◌, ◌∷◌, ℕ, List, [], IfOk, OnOk};
+ghost use Rattle.std.specs.Prelude.{◌≡◌, ◌∷◌, ◌<◌, ℕ, List, [], IfOk, OnOk, map};
 ghost use Rattle.std.specs.List.{list_any};
-ghost use Rattle.mp_legal.specs.Drain.{is_sent};
+ghost use Rattle.mp_legal.specs.Drain.{drain_place, is_sent};
 ghost use Rattle.mp_legal.specs.Inputs.{inputs_for};
-ghost use Rattle.mp_legal.specs.PlainLine.{flights_of};
-ghost use Rattle.mp_legal.specs.Units.{each_paid, pay_request, pay_round, pay_drain};
+ghost use Rattle.mp_legal.specs.PlainCall.{Inputs, reap};
+ghost use Rattle.mp_legal.specs.Units.{each_paid, pay_call, pay_request, pay_round, pay_drain};
 ghost use Rattle.mp_run.specs.Engine.{state_of, left_of, IsTied, Pays};
+ghost use Rattle.mp_run.specs.Rounds.{all_rounds};
 ghost use Rattle.mp_run.specs.Sound.{IsSound};
 
 use crate::engine::Engine;
@@ -93,7 +94,21 @@ impl Engine {
         self.send_each(alloc, notes, world, script, requests)
     }
 
-    /// Makes rounds over those that wait, each of which takes the list whole. The first that sends nothing is the last.
+    /// Carries the removals once for each that is under way.
+    fn reap_each(&mut self, notes: &mut LaneNotes) -> Result<(), Halt>
+        requires tied { IsTied self.old }
+        requires sound { IsSound (state_of self.old) [] }
+        ensures pays { (i : Inputs) → Pays result 16 (each_paid (pay_call i drain_place) (state_of self.old) (left_of 16 self.old) (map (λ slot. reap) (state_of self.old).removals)) self.old self.new notes.old.events notes.new.events }
+        ensures tied { OnOk result (IsTied self.new) }
+        ensures sound { OnOk result (IsSound (state_of self.new) []) }
+    {
+        for _ in 0..self.keeper.removals() {
+            self.reap(notes, drain_lane(), 0)?;
+        }
+        Ok(())
+    }
+
+    /// Carries the removals once for each that is under way, and then makes rounds over those that wait.
     pub fn drain(
         &mut self,
         alloc: Global,
@@ -103,8 +118,23 @@ impl Engine {
     ) -> Result<(), Halt>
         requires tied { IsTied self.old }
         requires sound { IsSound (state_of self.old) [] }
-        requires idle { flights_of 16 (state_of self.old) ≡ [] }
         ensures pays { Pays result 16 (pay_drain (inputs_for world.now script.now) (state_of self.old) (left_of 16 self.old)) self.old self.new notes.old.events notes.new.events }
+    {
+        self.reap_each(notes)?;
+        self.rounds(alloc, notes, world, script)
+    }
+
+    /// Makes rounds over those that wait, each of which takes the list whole. The first that sends nothing is the last.
+    fn rounds(
+        &mut self,
+        alloc: Global,
+        notes: &mut LaneNotes,
+        world: &World,
+        script: &Script,
+    ) -> Result<(), Halt>
+        requires tied { IsTied self.old }
+        requires sound { IsSound (state_of self.old) [] }
+        ensures pays { Pays result 16 (all_rounds (inputs_for world.now script.now) (state_of self.old) (left_of 16 self.old)) self.old self.new notes.old.events notes.new.events }
     {
         let requests = self.waiting.take_all();
         let most = match requests.len().checked_add(script.answers.len()) {

@@ -2,6 +2,7 @@
 
 ghost use Rattle.std.specs.Prelude.{◌≡◌, ◌<◌, ◌≤◌, ◌+◌, ◌++◌, ◌∷◌, ℕ, true, false, [], IfOk, IfErr, OnOk, count_by, map, length, slice_set, slice_index_or};
 ghost use Rattle.std.specs.List.{list_any};
+ghost use Rattle.mp_words.specs.Effect.{IsState};
 ghost use Rattle.mp_words.specs.declared.trying.Outcome.TheVariants as outcome;
 ghost use Rattle.mp_record.specs.declared.event.Event.TheVariants as event;
 ghost use Rattle.mp_core.specs.Seats.{turned};
@@ -15,12 +16,14 @@ ghost use Rattle.mp_legal.specs.Drain.{is_sent};
 ghost use Rattle.mp_legal.specs.Numbers.{has_req, standing, has_flight};
 ghost use Rattle.mp_legal.specs.PlainChange.{changed};
 ghost use Rattle.mp_legal.specs.PlainFinish.{finished, entries_of};
-ghost use Rattle.mp_legal.specs.PlainKeep.{policy_set};
+ghost use Rattle.mp_keep.specs.Walks as walk;
+ghost use Rattle.mp_legal.specs.PlainKeep.{added, policy_set, reaped, removed};
 ghost use Rattle.mp_legal.specs.PlainLine.{flights_of};
 ghost use Rattle.mp_legal.specs.PlainSubmit.{submitted};
 ghost use Rattle.mp_legal.specs.ToldCalls.{listed_back, entry_in, said_of};
+ghost use Rattle.mp_legal.specs.ToldKeeper.{added_said, entry_added, entry_marked, marked_said, reaped_said};
 ghost use Rattle.mp_legal.specs.Units.{paid_if, came_back};
-ghost use Rattle.mp_run.specs.Calls.{ended_by, flights_put, waiting_put, FliesNot, Empties, EndsEach};
+ghost use Rattle.mp_run.specs.Calls.{ended_by, flights_put, waiting_put, FliesNot, EndsEach, HasMoved, paid_keep};
 ghost use Rattle.mp_run.specs.Engine.{state_of, left_of, IsTied, Pays};
 
 use crate::halt::Halt;
@@ -28,11 +31,21 @@ use crate::made::Made;
 use crate::requests::Requests;
 use mp_change::change::{ChangeEnd, Changing, change};
 use mp_core::gate::NoGate;
-use mp_core::steps::{KeeperSteps, Steps};
+use mp_core::steps::Steps;
 use mp_flights::aloft::Aloft;
 use mp_flights::flights::Flights;
+use mp_keep::add_error::AddError;
+use mp_keep::added::Added;
+use mp_keep::keeper::Keeper;
+use mp_keep::reaped::Reaped;
+use mp_keep::remove_error::RemoveError;
+use mp_keep::stop::Stop;
 use mp_legal::calls::{
     change_is_the_plain_step, finish_is_the_plain_step, submit_is_the_plain_step,
+};
+use mp_legal::keeps::{
+    add_is_the_plain_step, policy_is_the_plain_step, reap_is_the_plain_step,
+    remove_is_the_plain_step,
 };
 use mp_plain::plain::Plain;
 use mp_record::event::{Event, Said};
@@ -40,21 +53,21 @@ use mp_record::notes::LaneNotes;
 use mp_requeue::private::Private;
 use mp_submit::submit::Submitted;
 use mp_words::answers::Answers;
-use mp_words::entry::OrderEntry;
+use mp_words::entry::RowEntry;
 use mp_words::flight::Flight;
 use mp_words::near::Near;
-use mp_words::numbers::{Ctrl, LaneId, Node, ReqId, Slot};
-use mp_words::op::{Maker, Op};
-use mp_words::order::Order;
+use mp_words::numbers::{Ctrl, LaneId, ReqId, Slot};
+use mp_words::op::{Gift, Maker, Op};
 use mp_words::row::Policy;
 use mp_words::trying::{Back, TryEnd};
 use std::alloc::Global;
 
-/// The state of a run: the words with the lanes that step over them, the flights of each lane, the waiting requests,
-/// the requests by number, and the entries made so far. The drain is lane 16.
+/// The state of a run: the words with the lanes that step over them, the one who adds and removes paths, the flights of
+/// each lane, the waiting requests, the requests by number, and the entries of rows made so far. The drain is lane 16.
 #[derive(Drop)]
 pub struct Engine {
     pub plain: Plain,
+    pub keeper: Keeper,
     pub flights: Vec<Flights>,
     pub waiting: Private<ReqId>,
     pub requests: Requests,
@@ -156,11 +169,75 @@ impl Engine {
     {
         pay(&mut self.plain, lane, 1)?;
         notes.reserve(1)?;
-        let entry = next_entry(&self.plain, policy, Maker::Line { lane, line });
+        self.keeper.reserve()?;
+        let by = Maker::Line { lane, line };
+        policy_is_the_plain_step();
+        let entry = self.keeper.set_policy(&mut self.plain, policy, by);
         let said = Said::Policy(entry.order.version);
-        self.made.push_order(&entry)?;
-        self.plain.store_order(entry);
-        empty_currents(&mut self.plain);
+        notes.push(Event::At { line, said });
+        Ok(())
+    }
+
+    /// Gives a path to the least free slot by a line of a lane, and lists it last, and notes what came of it.
+    pub fn add(
+        &mut self,
+        notes: &mut LaneNotes,
+        lane: LaneId,
+        line: u32,
+        gift: Gift,
+    ) -> Result<(), Halt>
+        requires tied { IsTied self.old }
+        requires state { IsState gift.state }
+        ensures pays { Pays result lane (paid_keep 2 (added (record { lane = lane; line = line }) (state_of self.old) gift) (state_of self.old) (left_of lane self.old)) self.old self.new notes.old.events notes.new.events }
+    {
+        pay(&mut self.plain, lane, 2)?;
+        notes.reserve(1)?;
+        self.keeper.reserve()?;
+        let by = Maker::Line { lane, line };
+        add_is_the_plain_step();
+        let answer = self.keeper.add(&mut self.plain, gift, by);
+        push_added(&mut self.made, &answer)?;
+        let said = added_said(&answer);
+        notes.push(Event::At { line, said });
+        Ok(())
+    }
+
+    /// Begins the removal of a controller's path by a line of a lane, and notes what came of it.
+    pub fn remove(
+        &mut self,
+        notes: &mut LaneNotes,
+        lane: LaneId,
+        line: u32,
+        ctrl: Ctrl,
+    ) -> Result<(), Halt>
+        requires tied { IsTied self.old }
+        ensures pays { Pays result lane (paid_keep 1 (removed (record { lane = lane; line = line }) (state_of self.old) ctrl) (state_of self.old) (left_of lane self.old)) self.old self.new notes.old.events notes.new.events }
+    {
+        pay(&mut self.plain, lane, 1)?;
+        notes.reserve(1)?;
+        self.keeper.reserve()?;
+        let by = Maker::Line { lane, line };
+        remove_is_the_plain_step();
+        let answer = self.keeper.remove(&mut self.plain, ctrl, by);
+        push_marked(&mut self.made, &answer)?;
+        let said = marked_said(&answer);
+        notes.push(Event::At { line, said });
+        Ok(())
+    }
+
+    /// Carries the removals as far as they go by a line of a lane, and notes what came of it.
+    pub fn reap(&mut self, notes: &mut LaneNotes, lane: LaneId, line: u32) -> Result<(), Halt>
+        requires tied { IsTied self.old }
+        ensures pays { Pays result lane (paid_keep 16 (reaped (record { lane = lane; line = line }) (state_of self.old)) (state_of self.old) (left_of lane self.old)) self.old self.new notes.old.events notes.new.events }
+    {
+        pay(&mut self.plain, lane, 16)?;
+        notes.reserve(1)?;
+        self.keeper.reserve()?;
+        let by = Maker::Line { lane, line };
+        reap_is_the_plain_step();
+        let answer = self.keeper.reap(&mut self.plain, by);
+        push_reaped(&mut self.made, &answer)?;
+        let said = reaped_said(&answer);
         notes.push(Event::At { line, said });
         Ok(())
     }
@@ -169,7 +246,7 @@ impl Engine {
     pub fn settle(&mut self, alloc: Global, lane: LaneId) -> Result<(), Halt>
         requires tied { IsTied self.old }
         ensures state { OnOk result (state_of self.new ≡ record (state_of self.old) { flights = slice_set (state_of self.old).flights lane [] }) }
-        ensures made { OnOk result ((self.new.made.rows.items ≡ self.old.made.rows.items) × (self.new.made.orders.items ≡ self.old.made.orders.items)) }
+        ensures made { OnOk result ((self.new.made.rows.items ≡ self.old.made.rows.items) × (self.new.keeper.entries ≡ self.old.keeper.entries)) }
         ensures tied { OnOk result (IsTied self.new) }
         ensures lefts { OnOk result ((other : ℕ) → other < 17 → left_of other self.new ≡ left_of other self.old) }
         ensures cause { IfErr result (λ halt. halt ≡ Halt.NoMemory) }
@@ -248,7 +325,6 @@ fn take_back(
 ) -> Result<(), Halt>
     ensures listed { OnOk result (waiting.new ≡ listed_back req back.now waiting.old) }
     ensures rows { OnOk result (made.new.rows.items ≡ made.old.rows.items ++ entries_of back.now) }
-    ensures orders { made.new.orders.items ≡ made.old.orders.items }
     ensures cause { IfErr result (λ halt. halt ≡ Halt.NoMemory) }
 {
     match back {
@@ -264,7 +340,6 @@ fn take_back(
 /// Adds the entry of a row change, if it made one.
 fn push_change(made: &mut Made, end: &ChangeEnd) -> Result<(), Halt>
     ensures rows { OnOk result (made.new.rows.items ≡ made.old.rows.items ++ entry_in end.now) }
-    ensures orders { made.new.orders.items ≡ made.old.orders.items }
     ensures cause { IfErr result (λ halt. halt ≡ Halt.NoMemory) }
 {
     match end {
@@ -290,32 +365,90 @@ fn said_of(end: &ChangeEnd) -> Said
     }
 }
 
-/// The entry of the next list of paths, with this policy.
-fn next_entry(plain: &Plain, policy: Policy, by: Maker) -> OrderEntry
-    ensures { result ≡ record { order = record (unpacked plain.now.words).order { version = (unpacked plain.now.words).order.version + 1; policy = policy }; by = by } }
+/// Adds the entry of a path that was added, if one was.
+fn push_added(made: &mut Made, answer: &Result<Added, AddError>) -> Result<(), Halt>
+    ensures rows { OnOk result (made.new.rows.items ≡ made.old.rows.items ++ entry_added answer.now) }
+    ensures cause { IfErr result (λ halt. halt ≡ Halt.NoMemory) }
 {
-    // The proof of a copy needs the type inside an order named here.
-    let _: Option<Slot> = None;
-    let mut order = Order::unpack(plain.words().order).unwrap();
-    order.version += 1;
-    order.policy = policy;
-    OrderEntry { order, by }
+    match answer {
+        Ok(added) => made.push_row(added.row),
+        Err(_) => Ok(()),
+    }
 }
 
-/// The node of a number.
-fn node_at(number: u32) -> Node
-    requires { number < 8 }
-    ensures { result ≡ number }
+/// What a line says of how its add ended.
+fn added_said(answer: &Result<Added, AddError>) -> Said
+    ensures { result ≡ added_said answer.now }
 {
-    Node::make(number).unwrap()
+    match answer {
+        Ok(added) => Said::Added(
+            added.row.slot,
+            added.row.row.version,
+            added.order.order.version,
+        ),
+        Err(AddError::Already(slot)) => Said::Already(*slot),
+        Err(AddError::NoSlot) => Said::NoSlot,
+        Err(AddError::OrderFull) => Said::OrderFull,
+    }
 }
 
-/// Makes each node's current path none.
-fn empty_currents<S: KeeperSteps>(steps: &mut S)
-    ensures { Empties 8 (S.core steps.old) (S.core steps.new) }
+/// Adds the entry of a row that was marked, if one was.
+fn push_marked(made: &mut Made, answer: &Result<RowEntry, RemoveError>) -> Result<(), Halt>
+    ensures rows { OnOk result (made.new.rows.items ≡ made.old.rows.items ++ entry_marked answer.now) }
+    ensures cause { IfErr result (λ halt. halt ≡ Halt.NoMemory) }
 {
-    for node in 0..8 {
-        steps.keeper_current(node_at(node));
+    match answer {
+        Ok(entry) => made.push_row(*entry),
+        Err(_) => Ok(()),
+    }
+}
+
+/// What a line says of how its begin of a removal ended, which met no other row.
+fn marked_said(answer: &Result<RowEntry, RemoveError>) -> Said
+    requires still { HasMoved answer.now → ⊥ }
+    ensures { marked_said answer.now ≡ result ∷ [] }
+{
+    match answer {
+        Ok(entry) => Said::Marked(entry.slot, entry.row.version),
+        Err(RemoveError::NoPath(order)) => Said::NoPath(order.version),
+        Err(RemoveError::Moved(_)) => unreachable!(),
+    }
+}
+
+/// Adds the entry of a slot that was freed, if one was.
+fn push_reaped(made: &mut Made, answer: &Reaped) -> Result<(), Halt>
+    ensures rows { OnOk result (made.new.rows.items ≡ made.old.rows.items ++ walk.entries_of answer.now) }
+    ensures cause { IfErr result (λ halt. halt ≡ Halt.NoMemory) }
+{
+    match answer {
+        Reaped::Freed(entry, _) => made.push_row(*entry),
+        Reaped::Idle => Ok(()),
+        Reaped::Again(_, _) => Ok(()),
+    }
+}
+
+/// What a line says of how its reap ended.
+fn reaped_said(answer: &Reaped) -> Said
+    ensures { result ≡ reaped_said answer.now }
+{
+    match answer {
+        Reaped::Idle => Said::Idle,
+        Reaped::Freed(entry, flips) => Said::Freed(entry.slot, entry.row.version, *flips),
+        Reaped::Again(slot, stop) => stopped_said(*slot, stop),
+    }
+}
+
+/// What a line says of a reap that stopped at a slot.
+fn stopped_said(slot: Slot, stop: &Stop) -> Said
+    ensures { result ≡ reaped_said (Reaped.Again slot stop.now) }
+{
+    match stop {
+        Stop::Section {
+            grace,
+            side,
+            inside,
+        } => Said::AgainSection(slot, *grace, *side, *inside),
+        Stop::Depth(depth) => Said::AgainDepth(slot, *depth),
     }
 }
 

@@ -1,9 +1,10 @@
 //! The parts of a run.
 
-ghost use Rattle.std.specs.Prelude.{◌≡◌, ◌∷◌, ◌<◌, ◌≤◌, List, IfOk, OnOk, map, length, vec_len};
+ghost use Rattle.std.specs.Prelude.{◌≡◌, ◌∷◌, ◌++◌, [], ◌<◌, ◌≤◌, List, IfOk, OnOk, map, length, vec_len};
 ghost use Rattle.std.specs.List.{enumerate_from};
 ghost use Rattle.mp_legal.specs.Opening.{opening_entry};
 ghost use Rattle.mp_legal.specs.PlainRun.{rows_in};
+ghost use Rattle.mp_legal.specs.ToldKeeper.{orders_in};
 ghost use Rattle.mp_words.specs.declared.entry.KeepEntry.TheVariants as keep;
 ghost use Rattle.mp_words.specs.declared.row.Row.{Row};
 ghost use Rattle.mp_run.specs.Gathered.{alone, first_entry};
@@ -79,13 +80,27 @@ pub fn histories(
     Ok(Items::from_vec(all))
 }
 
-/// What the keeper made of a run: the list of the opening, and then those that were stored.
+/// Adds an entry of the keeper's that is a list of paths.
+fn push_order(all: &mut Vec<KeepEntry>, entry: &KeepEntry) -> Result<(), RunError>
+    ensures { OnOk result (all.new.items ≡ all.old.items ++ map keep.Order (orders_in (entry.now ∷ []))) }
+{
+    // The proof of a push needs each type inside an entry named here.
+    let _: (Option<Order>, Option<Policy>, Option<Maker>) = (None, None, None);
+    let _: (Option<OrderEntry>, Option<Closing>) = (None, None);
+    match entry {
+        KeepEntry::Order(order) => all.push(KeepEntry::Order(*order))?,
+        KeepEntry::Closing(_) => (),
+    }
+    Ok(())
+}
+
+/// The lists of paths of a run: that of the opening, and then those that were stored.
 pub fn keeping(
     alloc: Global,
     order: Order,
-    made: &[OrderEntry],
+    made: &[KeepEntry],
 ) -> Result<Items<KeepEntry>, RunError>
-    ensures { IfOk result (λ all. all ≡ first_entry order ∷ map keep.Order made.now) }
+    ensures { IfOk result (λ all. all ≡ first_entry order ∷ map keep.Order (orders_in made.now)) }
 {
     // The proof of a push needs each type inside an entry named here.
     let _: (Option<Order>, Option<Policy>, Option<Maker>) = (None, None, None);
@@ -96,7 +111,7 @@ pub fn keeping(
         by: Maker::Start,
     }))?;
     for entry in made {
-        all.push(KeepEntry::Order(*entry))?;
+        push_order(&mut all, entry)?;
     }
     Ok(Items::from_vec(all))
 }

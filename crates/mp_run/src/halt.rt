@@ -4,6 +4,7 @@ ghost use Rattle.std.specs.Prelude.{◌≡◌};
 ghost use Rattle.mp_run.specs.declared.halt.Halt.TheVariants.{NoMemory};
 
 use mp_flights::error::FlightsError;
+use mp_keep::keep_error::KeepError;
 use mp_record::notes::NoteError;
 use mp_words::request::SubmitError;
 use std::alloc::{AllocError, AllocFailed};
@@ -37,6 +38,14 @@ impl From<FlightsError> for Halt {
     ghost from_gives = { λ _ e. e ≡ NoMemory };
 
     fn from(_error: FlightsError) -> Halt {
+        Halt::NoMemory
+    }
+}
+
+impl From<KeepError> for Halt {
+    ghost from_gives = { λ _ e. e ≡ NoMemory };
+
+    fn from(_error: KeepError) -> Halt {
         Halt::NoMemory
     }
 }

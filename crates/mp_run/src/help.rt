@@ -51,7 +51,6 @@ it is 0.\n\
 \x20            controller without ANA, or none for one with it\n\
 \x20 Repeat     a request submitted, an attempt answered or a keeper's lane begun a second time\n\
 \x20 Limit      more than 65536 lines, or more than 16 lanes\n\
-\x20 NotBuilt   this version doesn't run the lines `add`, `remove` and `reap`\n\
 \n\
 `boxes refused WORD N`: N is the offset of the box in the file, in bytes from 0.\n\
 \x20 TooMany    more than 1024 boxes; no number follows\n\

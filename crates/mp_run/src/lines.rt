@@ -6,20 +6,21 @@ ghost use Rattle.mp_checks.specs.Marks.{has};
 ghost use Rattle.mp_record.specs.declared.event.Event.TheVariants as event;
 ghost use Rattle.mp_page.specs.Gifts.{page_at};
 ghost use Rattle.mp_script.specs.declared.script.Line.TheVariants as kind;
-ghost use Rattle.mp_script.specs.Facts.{submit_of, IsSimple};
+ghost use Rattle.mp_script.specs.Facts.{submit_of};
 ghost use Rattle.mp_legal.specs.Inputs.{inputs_for, inputs_of};
 ghost use Rattle.mp_legal.specs.Numbers.{has_req};
 ghost use Rattle.mp_legal.specs.PlainCall.{submit, finish};
-ghost use Rattle.mp_legal.specs.PlainLine.{flights_of, flights_with, finishes, page_said, place_of, start_of, turn_start};
+ghost use Rattle.mp_legal.specs.PlainLine.{adds, flights_of, flights_with, finishes, page_said, place_of, start_of, turn_start};
 ghost use Rattle.mp_legal.specs.Stepped.{Place};
 ghost use Rattle.mp_legal.specs.Units.{each_paid, pay_call, pay_line};
 ghost use Rattle.mp_run.specs.Engine.{state_of, left_of, IsTied, Pays, Leaves, Runs};
-ghost use Rattle.mp_run.specs.LaneTurns.{submit_in, IsSimpleTurn};
+ghost use Rattle.mp_run.specs.LaneTurns.{submit_in};
 ghost use Rattle.mp_run.specs.Sound.{IsSound, AreOf, AreThere};
 ghost use Rattle.mp_run.specs.World.{IsWorld};
 
 use crate::engine::Engine;
 use crate::halt::Halt;
+use crate::opening::{page_gift, plain_gift};
 use crate::turns::LaneTurn;
 use mp_change::log::log_op;
 use mp_flights::aloft::Aloft;
@@ -196,6 +197,55 @@ impl Engine {
         }
     }
 
+    /// Adds a path of a controller, by the page in a box where one is named.
+    fn add_line(
+        &mut self,
+        alloc: Global,
+        notes: &mut LaneNotes,
+        world: &World,
+        lane: LaneId,
+        line: u32,
+        ctrl: Ctrl,
+        number: Option<u32>,
+    ) -> Result<(), Halt>
+        requires world { IsWorld world.now }
+        requires tied { IsTied self.old }
+        ensures { (script : Script) → Runs result world.now script lane line (start_of (inputs_for world.now script) lane (state_of self.old) (kind.Add ctrl number)) self.old self.new notes.old.events notes.new.events }
+    {
+        match number {
+            None => self.add(notes, lane, line, plain_gift(ctrl)),
+            Some(number) => self.add_box(alloc, notes, world, lane, line, ctrl, number),
+        }
+    }
+
+    /// Adds a path of a controller by the page in a box. A refused page is what the line says, and changes nothing.
+    fn add_box(
+        &mut self,
+        alloc: Global,
+        notes: &mut LaneNotes,
+        world: &World,
+        lane: LaneId,
+        line: u32,
+        ctrl: Ctrl,
+        number: u32,
+    ) -> Result<(), Halt>
+        requires world { IsWorld world.now }
+        requires tied { IsTied self.old }
+        ensures { (script : Script) → Runs result world.now script lane line (adds (inputs_for world.now script) (state_of self.old) ctrl (Some number)) self.old self.new notes.old.events notes.new.events }
+    {
+        stated_state_is_in_range();
+        match page_in(alloc, world, number) {
+            Ok(page) => {
+                let gift = page_gift(ctrl, &page, world.topology.nsid);
+                self.add(notes, lane, line, gift)
+            }
+            Err(why) => {
+                let said = page_said(&why)?;
+                say(notes, line, said)
+            }
+        }
+    }
+
     /// Takes a turn: a line, or the lane's end.
     pub fn take_turn(
         &mut self,
@@ -208,7 +258,6 @@ impl Engine {
         requires world { IsWorld world.now }
         requires tied { IsTied self.old }
         requires sound { IsSound (state_of self.old) [] }
-        requires simple { IsSimpleTurn turn.line }
         requires fresh { (req : ℕ) → has (submit_in turn.line) req ≡ true → has_req req self.old.requests.asked ≡ false }
         ensures pays { Pays result turn.lane (pay_line (inputs_for world.now script.now) (place_of turn.lane turn.line) (left_of turn.lane self.old) (turn_start (inputs_for world.now script.now) turn.lane (state_of self.old) turn.line)) self.old self.new notes.old.events notes.new.events }
         ensures sound { Leaves result (IsSound (state_of self.new) []) }
@@ -238,7 +287,6 @@ impl Engine {
         requires world { IsWorld world.now }
         requires tied { IsTied self.old }
         requires sound { IsSound (state_of self.old) [] }
-        requires simple { IsSimple asked }
         requires fresh { (req : ℕ) → has (submit_of asked) req ≡ true → has_req req self.old.requests.asked ≡ false }
         ensures pays { Runs result world.now script.now lane line (start_of (inputs_for world.now script.now) lane (state_of self.old) asked) self.old self.new notes.old.events notes.new.events }
         ensures small { (req : ℕ) → has (submit_of asked) req ≡ true → req < 65536 }
@@ -254,7 +302,9 @@ impl Engine {
             Line::Ctrl(ctrl, cstate) => self.change(notes, lane, line, ctrl, Op::Ctrl(cstate)),
             Line::Anatt(ctrl) => self.change(notes, lane, line, ctrl, Op::Expire),
             Line::Policy(policy) => self.set_policy(notes, lane, line, policy),
-            _ => unreachable!(),
+            Line::Add(ctrl, number) => self.add_line(alloc, notes, world, lane, line, ctrl, number),
+            Line::Remove(ctrl) => self.remove(notes, lane, line, ctrl),
+            Line::Reap => self.reap(notes, lane, line),
         }
     }
 }

@@ -1,8 +1,9 @@
 //! The state with which a run begins.
 
-ghost use Rattle.std.specs.Prelude.{◌≡◌, ◌<◌, ◌≤◌, ◌++◌, IfOk, OnOk, Some, map, length, slice_get, vec_len, take, replicate, All};
+ghost use Rattle.std.specs.Prelude.{◌≡◌, ◌<◌, ◌≤◌, ◌++◌, IfOk, OnOk, Some, None, map, length, slice_index_or, slice_get, vec_len, take, replicate, All};
 ghost use Rattle.std.specs.List.{range_with_len};
 ghost use Rattle.mp_words.specs.Effect.{free_row, given_row};
+ghost use Rattle.mp_keep.specs.Keeper.{owner_of};
 ghost use Rattle.mp_page.specs.Page.{page_in};
 ghost use Rattle.mp_words.specs.Order.{order_of};
 ghost use Rattle.mp_page.specs.Gifts as gifts;
@@ -12,7 +13,7 @@ ghost use Rattle.mp_run.specs.OpeningSlots.{slot_before};
 ghost use Rattle.mp_run.specs.World.{IsWorld};
 
 use crate::error::RunError;
-use mp_page::{PageError, changing, read_page, state_for};
+use mp_page::{Page, PageError, changing, read_page, state_for};
 use mp_script::script::World;
 use mp_topology::topology::Topology;
 use mp_words::numbers::{Ctrl, Slot};
@@ -42,7 +43,7 @@ pub fn free_row() -> Row
 }
 
 /// What a path of a controller without ANA begins with.
-fn plain_gift(ctrl: Ctrl) -> Gift
+pub fn plain_gift(ctrl: Ctrl) -> Gift
     ensures { result ≡ gifts.plain_gift ctrl }
 {
     Gift {
@@ -71,13 +72,20 @@ fn stated_gift(ctrl: Ctrl, armed: bool, stated: Option<u8>) -> Gift
     }
 }
 
+/// What a path with ANA begins with, by its page.
+pub fn page_gift(ctrl: Ctrl, page: &Page, nsid: u32) -> Gift
+    ensures { result ≡ gifts.gift_of nsid ctrl (Some page.now) }
+{
+    stated_gift(ctrl, changing(page), state_for(page, nsid))
+}
+
 /// What an opening path with ANA begins with, by the bytes of its page. A refused page counts as an empty one.
 fn gift_in(alloc: Global, topology: &Topology, ctrl: Ctrl, bytes: &[u8]) -> Result<Gift, RunError>
     requires { length bytes.now ≤ 65536 }
     ensures { IfOk result (λ gift. gift ≡ gifts.gift_of topology.now.nsid ctrl (Some (plain.page_or_empty (page_in topology.now.anagrpmax bytes.now)))) }
 {
     match read_page(alloc, bytes, topology.anagrpmax) {
-        Ok(page) => Ok(stated_gift(ctrl, changing(&page), state_for(&page, topology.nsid))),
+        Ok(page) => Ok(page_gift(ctrl, &page, topology.nsid)),
         Err(PageError::NoMemory) => Err(RunError::NoMemory),
         Err(_) => Ok(stated_gift(ctrl, false, None)),
     }
@@ -200,4 +208,37 @@ pub fn opening_order(topology: &Topology) -> Order
             slot_at(7, len),
         ],
     }
+}
+
+/// The controller of the path at a place, if there is one.
+fn owner_at(rows: &[Row], place: usize) -> Option<Ctrl>
+    requires { place < length rows.now }
+    ensures { result ≡ slice_index_or (map owner_of rows.now) place None }
+{
+    let row = rows[place];
+    if row.state == 0 { None } else { Some(row.ctrl) }
+}
+
+/// The controllers by slot.
+pub fn owners_of(rows: &[Row]) -> [Option<Ctrl>; 15]
+    requires { length rows.now ≡ 15 }
+    ensures { result ≡ map owner_of rows.now }
+{
+    [
+        owner_at(rows, 0),
+        owner_at(rows, 1),
+        owner_at(rows, 2),
+        owner_at(rows, 3),
+        owner_at(rows, 4),
+        owner_at(rows, 5),
+        owner_at(rows, 6),
+        owner_at(rows, 7),
+        owner_at(rows, 8),
+        owner_at(rows, 9),
+        owner_at(rows, 10),
+        owner_at(rows, 11),
+        owner_at(rows, 12),
+        owner_at(rows, 13),
+        owner_at(rows, 14),
+    ]
 }

@@ -102,7 +102,6 @@ pub(crate) fn script_of(
     ensures exact { Gives (λ s. s) result (script_or (script_in topology.now boxes bytes.now)) }
     ensures refused { IfErr result IsTextStatus }
     ensures read { IfOk result scripts.IsScript }
-    ensures built { IfOk result scripts.IsBuilt }
 {
     match read_script(alloc, bytes, topology, boxes) {
         Ok(script) => Ok(script),

@@ -5,18 +5,17 @@ ghost use Rattle.std.specs.List.{AllByRecursion};
 ghost use Rattle.mp_checks.specs.Marks.{has};
 ghost use Rattle.mp_words.specs.Request.{asked_of};
 ghost use Rattle.mp_record.specs.RunView.{view_of, events_of};
-ghost use Rattle.mp_script.specs.Facts.{IsScript, IsBuilt, submits_in};
+ghost use Rattle.mp_script.specs.Facts.{IsScript, submits_in};
 ghost use Rattle.mp_script.specs.Distinct.{IsDistinct};
 ghost use Rattle.mp_legal.specs.Inputs.{inputs_of, inputs_for};
 ghost use Rattle.mp_legal.specs.Numbers.{has_req};
 ghost use Rattle.mp_legal.specs.Opening as plain;
-ghost use Rattle.mp_legal.specs.PlainLine.{flights_of};
 ghost use Rattle.mp_legal.specs.PlainRun.{run_over, reads_over};
 ghost use Rattle.mp_legal.specs.Units.{pay_turn, pay_drain, serial_over};
 ghost use Rattle.mp_run.specs.Engine.{state_of, left_of, IsTied, IsPaid};
-ghost use Rattle.mp_run.specs.LaneTurns.{turn_of, turns_submits, submit_in, IsSimpleTurn};
+ghost use Rattle.mp_run.specs.LaneTurns.{turn_of, turns_submits, submit_in};
 ghost use Rattle.mp_run.specs.Notes.{AreNoted};
-ghost use Rattle.mp_run.specs.OnTurns.{AreSimpleTurns, IsOn, TakesAll, all_turns, gathered_run, stage_of};
+ghost use Rattle.mp_run.specs.OnTurns.{AreTurnsOf, IsOn, TakesAll, all_turns, gathered_run, stage_of};
 ghost use Rattle.mp_run.specs.Sound.{IsSound};
 ghost use Rattle.mp_run.specs.Taking.{left_if, left_or, Takes};
 ghost use Rattle.mp_run.specs.Told.{IsOver, AreNumbered};
@@ -29,10 +28,12 @@ use crate::first_words::opening;
 use crate::gather::{histories, keeping};
 use crate::halt::Halt;
 use crate::made::Made;
-use crate::opening::{opening_order, opening_rows};
+use crate::opening::{opening_order, opening_rows, owners_of};
 use crate::requests::Requests;
 use crate::turns::{LaneTurn, lane_of, turns};
 use mp_flights::flights::Flights;
+use mp_keep::keeper::Keeper;
+use mp_keep::laws::a_new_keeper_stands;
 use mp_page::laws::stated_state_is_in_range;
 use mp_plain::plain::Plain;
 use mp_record::event::Event;
@@ -65,16 +66,20 @@ fn start(alloc: Global, world: &World, allowance: u32) -> Result<Engine, RunErro
     ensures state { IfOk result (λ engine. state_of engine ≡ plain.opening (inputs_of world.now)) }
     ensures tied { IfOk result IsTied }
     ensures lefts { IfOk result (λ engine. (lane : ℕ) → lane < 17 → left_of lane engine ≡ allowance) }
-    ensures made { IfOk result (λ engine. (engine.made.rows.items ≡ []) × (engine.made.orders.items ≡ [])) }
+    ensures made { IfOk result (λ engine. (engine.made.rows.items ≡ []) × (engine.keeper.entries ≡ [])) }
 {
     stated_state_is_in_range();
+    a_new_keeper_stands();
     let words = opening(alloc, world)?;
+    let rows = opening_rows(alloc, world)?;
+    let order = opening_order(&world.topology);
     let Ok(plain) = Plain::make(alloc, &words, allowance) else {
         return Err(RunError::NoMemory);
     };
     let flights = no_flights(alloc)?;
     Ok(Engine {
         plain,
+        keeper: Keeper::make(alloc, order, owners_of(&rows)),
         flights,
         waiting: Private::make(alloc),
         requests: Requests::make(alloc),
@@ -94,7 +99,6 @@ fn take_paid(
     requires world { IsWorld world.now }
     requires tied { IsTied engine.old }
     requires sound { IsSound (state_of engine.old) [] }
-    requires simple { IsSimpleTurn turn.line }
     requires fresh { (req : ℕ) → has (submit_in turn.line) req ≡ true → has_req req engine.old.requests.asked ≡ false }
     ensures paid { IfOk result (λ spent. IsPaid turn.lane (pay_turn (inputs_for world.now script.now) turn.lane (state_of engine.old) turn.line (Some (left_of turn.lane engine.old))) (left_if spent turn.lane engine.new) engine.old engine.new notes.old.events notes.new.events) }
     ensures sound { OnOk result (IsSound (state_of engine.new) []) }
@@ -125,7 +129,6 @@ fn take_turn(
     requires tied { IsTied engine.old }
     requires sound { IsSound (state_of engine.old) [] }
     requires lane { turn.lane < 16 }
-    requires simple { IsSimpleTurn turn.line }
     requires fresh { (req : ℕ) → has (submit_in turn.line) req ≡ true → has_req req engine.old.requests.asked ≡ false }
     ensures takes { OnOk result (Takes turn.lane (pay_turn (inputs_for world.now script.now) turn.lane (state_of engine.old) turn.line (left_or spent.old turn.lane engine.old)) spent.old spent.new engine.old engine.new notes.old.events notes.new.events) }
     ensures sound { OnOk result (IsSound (state_of engine.new) []) }
@@ -153,7 +156,7 @@ fn take_turns(
     requires tied { IsTied engine.old }
     requires sound { IsSound (state_of engine.old) [] }
     requires few { vec_len lanes.old ≤ 16 }
-    requires turns { AreSimpleTurns (vec_len lanes.old) (map turn_of turns.now) }
+    requires turns { AreTurnsOf (vec_len lanes.old) (map turn_of turns.now) }
     requires fresh { IsDistinct (map (λ a. a.req) engine.old.requests.asked ++ turns_submits (map turn_of turns.now)) }
     ensures on { OnOk result (IsOn (inputs_for world.now script.now) (map turn_of turns.now) [] (stage_of spent.old engine.old (vec_len lanes.old) (map events_of lanes.old.items)) (stage_of spent.new engine.new (vec_len lanes.old) (map events_of lanes.new.items))) }
     ensures tied { OnOk result (IsTied engine.new) }
@@ -208,7 +211,6 @@ fn run_lanes(
     requires sound { IsSound (state_of engine.old) [] }
     requires first { engine.old.requests.asked ≡ [] }
     requires script { IsScript script.now }
-    requires built { IsBuilt script.now }
     ensures takes { IfOk result (λ lanes. TakesAll (inputs_for world.now script.now) script.now.lanes engine.old engine.new (map events_of lanes.items)) }
     ensures enough { IfOk result (λ lanes. position is_none (all_turns (inputs_for world.now script.now) script.now.lanes engine.old).lefts ≡ None) }
     ensures spent { (lane : ℕ) → result ≡ Err (RunError.Spent lane) → position is_none (all_turns (inputs_for world.now script.now) script.now.lanes engine.old).lefts ≡ Some lane }
@@ -235,7 +237,6 @@ fn drained(
 ) -> Result<LaneNotes, RunError>
     requires tied { IsTied engine.old }
     requires sound { IsSound (state_of engine.old) [] }
-    requires idle { flights_of 16 (state_of engine.old) ≡ [] }
     ensures paid { IfOk result (λ drain. IsPaid 16 (pay_drain (inputs_for world.now script.now) (state_of engine.old) (left_of 16 engine.old)) (Some (left_of 16 engine.new)) engine.old engine.new [] drain.events) }
     ensures spent { (lane : ℕ) → result ≡ Err (RunError.Spent lane) → (lane ≡ 16) × ((pay_drain (inputs_for world.now script.now) (state_of engine.old) (left_of 16 engine.old)).left ≡ None) }
 {
@@ -276,6 +277,7 @@ fn gathered(
 {
     let Engine {
         plain: _,
+        keeper,
         flights: _,
         waiting: _,
         requests,
@@ -284,7 +286,7 @@ fn gathered(
     let opened = opening_rows(alloc, world)?;
     let rows = histories(alloc, &opened, &made.rows)?;
     let order = opening_order(&world.topology);
-    let keeping = keeping(alloc, order, &made.orders)?;
+    let keeping = keeping(alloc, order, keeper.entries())?;
     let all = requests.into_vec(alloc)?;
     let keeper = keeper_of(script.lanes.as_slice());
     Ok(Run {
@@ -312,7 +314,6 @@ pub fn serial(
 ) -> Result<Run, RunError>
     requires world { IsWorld world.now }
     requires script { IsScript script.now }
-    requires built { IsBuilt script.now }
     requires few { allowance ≤ 2097152 }
     ensures paid { IfOk result (λ run. serial_over allowance world.now script.now ≡ Ok (view_of run)) }
     ensures spent { (lane : ℕ) → result ≡ Err (RunError.Spent lane) → serial_over allowance world.now script.now ≡ Err lane }

@@ -33,7 +33,6 @@ const UNITS: u32 = 2_097_152;
 fn text_of_run(alloc: Global, world: &World, script: &Script) -> Result<Vec<u8>, Status>
     requires world { IsWorld world.now }
     requires script { scripts.IsScript script.now }
-    requires built { scripts.IsBuilt script.now }
     ensures exact { Gives (λ text. text.items) result (serial_text world.now script.now) }
     ensures refused { IfErr result IsTextStatus }
 {

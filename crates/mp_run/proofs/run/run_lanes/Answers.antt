@@ -6,7 +6,7 @@ use Rattle.mp_record.specs.declared.event.Event.{Event}
 use Rattle.mp_legal.specs.Inputs.{inputs_for}
 use Rattle.mp_legal.specs.Turns.{turns_of}
 use Rattle.mp_run.specs.LaneTurns.{turn_of}
-use Rattle.mp_run.proofs.TurnFacts.{longest_few, turns_simple, fresh_turns}
+use Rattle.mp_run.proofs.TurnFacts.{longest_few, turns_of_lanes, fresh_turns}
 use Rattle.mp_run.proofs.WholeRun.{takes_all, first_spent_is}
 use Rattle.mp_run.specs.declared.error.RunError.{RunError}
 use Rattle.mp_run.specs.declared.error.RunError.TheVariants as error
@@ -33,7 +33,7 @@ take_turns-requires-clause-turns c =
     let all : map turn_of c.deref.result.now ≡ turns_of plans = ap (map turn_of) c.deref.ensures.value ∙ c.in_ok-turns.ensures.exact ∙ ap turns_of c.as_slice-plans.ensures in
     let count : vec_len c.in_ok-lanes.lanes ≡ length plans =
     omega (arith, ap length c.in_ok-lanes.ensures.exact, length-map c.in_ok-lanes.lanes.items events_of, length-replicate {A = List Event} (length c.as_slice-plans.result.now) [], ap length c.as_slice-plans.ensures) in
-    rw (count, all) (turns_simple c.args.script.now c.requires.built)
+    rw (count, all) (turns_of_lanes plans)
 
 pub take_turns-requires-clause-fresh : goal.take_turns-requires-clause-fresh
 take_turns-requires-clause-fresh c =

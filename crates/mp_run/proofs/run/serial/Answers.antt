@@ -6,6 +6,7 @@ use Rattle.mp_legal.specs.PlainState.{State}
 use Rattle.mp_legal.specs.PlainRun.{plain_run}
 use Rattle.mp_legal.specs.Inputs.{inputs_for}
 use Rattle.mp_legal.specs.Numbers.{has_req}
+use Rattle.mp_legal.specs.ToldKeeper.{orders_in}
 use Rattle.mp_legal.specs.TryRead.{TryRead}
 use Rattle.mp_run.specs.Notes.{AreNoted}
 use Rattle.mp_run.specs.Sound.{IsSound}
@@ -14,7 +15,7 @@ use Rattle.mp_run.specs.declared.error.RunError.{RunError}
 use Rattle.mp_run.specs.declared.error.RunError.TheVariants as error
 use Rattle.mp_run.proofs.KeptRun.{opening_sound, run_over_all, run_asked, run_numbered}
 use Rattle.mp_run.proofs.PaidRun.{paid_is_plain}
-use Rattle.mp_run.proofs.SerialRun.{idle_after, lane_spent, drain_spent, run_made, reads_left, serial_over_is, run_over_is, reads_are}
+use Rattle.mp_run.proofs.SerialRun.{lane_spent, drain_spent, run_made, reads_left, serial_over_is, run_over_is, reads_are}
 use Rattle.mp_run.proofs.run.serial.Goals as goal
 
 pub run_lanes-requires-clause-sound : goal.run_lanes-requires-clause-sound
@@ -22,11 +23,6 @@ run_lanes-requires-clause-sound c = subst (λ (s : State). IsSound s []) (sym c.
 
 pub run_lanes-requires-clause-first : goal.run_lanes-requires-clause-first
 run_lanes-requires-clause-first c = ap (λ (s : State). s.requests) c.in-Ok.ensures.state
-
-pub drained-requires-clause-idle : goal.drained-requires-clause-idle
-drained-requires-clause-idle c =
-    idle_after c.args.allowance (inputs_for c.args.world.now c.args.script.now) c.args.script.now.lanes c.in-Ok.engine c.run_lanes.new.engine (map events_of c.in_ok-lanes.lanes.items) c.requires.script.few_lanes c.in-Ok.ensures.state c.in-Ok.ensures.lefts
-    c.in_ok-lanes.ensures.enough c.in_ok-lanes.ensures.takes
 
 err_same : {T : Type 0} (r : Result T RunError) (x y : RunError) → r ≡ Err x → r ≡ Err y → x ≡ y
 err_same r x y p q = cc
@@ -55,7 +51,7 @@ returns-in-Ok-gathered-clause-paid c =
     let plans = c.args.script.now.lanes in
     serial_over_is c.args.allowance c.args.world.now c.args.script.now
     ∙ run_made c.args.allowance i plans c.in-Ok.engine c.run_lanes.new.engine c.drained.new.engine (map events_of c.in_ok-lanes.lanes.items) c.in_ok-drain.drain.events _ c.requires.script.few_lanes c.in-Ok.ensures.state
-    c.in-Ok.ensures.made.0 c.in-Ok.ensures.made.1 c.in-Ok.ensures.lefts c.in_ok-lanes.ensures.enough c.in_ok-lanes.ensures.takes c.in_ok-drain.ensures.paid
+    c.in-Ok.ensures.made.0 (ap orders_in c.in-Ok.ensures.made.1) c.in-Ok.ensures.lefts c.in_ok-lanes.ensures.enough c.in_ok-lanes.ensures.takes c.in_ok-drain.ensures.paid
     ∙ ap (λ (run : RunView). Ok run) (sym c.in-Ok-gathered.ensures.exact)
 
 plainly : (c : goal.In-Ok-gathered) → view_of c.in-Ok-gathered.run' ≡ plain_run (inputs_for c.args.world.now c.args.script.now) c.args.script.now.lanes

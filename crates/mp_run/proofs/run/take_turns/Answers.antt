@@ -7,7 +7,7 @@ use Rattle.mp_script.specs.Distinct.{IsDistinct}
 use Rattle.mp_run.specs.Engine.{state_of}
 use Rattle.mp_legal.specs.Inputs.{inputs_for}
 use Rattle.mp_run.specs.LaneTurns.{turn_of, turns_submits, submit_in}
-use Rattle.mp_run.specs.OnTurns.{AreSimpleTurns, stage_of}
+use Rattle.mp_run.specs.OnTurns.{AreTurnsOf, stage_of}
 use Rattle.mp_run.specs.Taking.{left_or}
 use Rattle.mp_run.proofs.OnTurns.{on_first, on_next, numbers, fresh_in}
 use Rattle.mp_run.proofs.KeptTurns.{fresh_next}
@@ -44,7 +44,7 @@ loop-turn-preserved c =
     let rest : List LaneTurn = drop (k + 1) turns in
     let i = inputs_for c.args.world.now c.args.script.now in
     let left : drop k turns ≡ t ∷ rest = drop_more turns k t c.loop-turn-test.true ∙ ap (λ (u : LaneTurn). u ∷ rest) (sym c.turn-item.is) in
-    let simple : AreSimpleTurns c.loop-turn.lanes.len (turn_of t ∷ map turn_of rest) = rw left at c.loop-turn.invariant.turns in
+    let own : AreTurnsOf c.loop-turn.lanes.len (turn_of t ∷ map turn_of rest) = rw left at c.loop-turn.invariant.turns in
     let fresh : IsDistinct (numbers c.loop-turn.engine.requests.asked ++ (submit_in t.line ++ turns_submits (map turn_of rest))) = rw left at c.loop-turn.invariant.fresh in
     let on = rw left at c.loop-turn.invariant.on in
     let n = c.args.lanes.now.len in
@@ -55,14 +55,14 @@ loop-turn-preserved c =
     record {
       on = rw (map-set, c.get.ensures.number)
           (on_next i (map turn_of turns) (map turn_of rest) (turn_of t) (stage_of c.args.spent.now c.args.engine.now n (map events_of c.args.lanes.now.items)) n c.loop-turn.spent c.take_turn.new.spent
-          c.loop-turn.engine c.take_turn.new.engine (map events_of lanes) old.events c.take_turn.new.notes.events c.requires.few (omega (arith, simple.0, c.loop-turn.invariant.lanes))
+          c.loop-turn.engine c.take_turn.new.engine (map events_of lanes) old.events c.take_turn.new.notes.events c.requires.few (omega (arith, own.0, c.loop-turn.invariant.lanes))
           (omega (arith, length-map lanes events_of, c.loop-turn.invariant.lanes)) on was takes);
       tied = takes.tied;
       sound = c.in_ok-take_turn.ensures.sound;
-      turns = simple.2;
+      turns = own.1;
       fresh = fresh_next i t.lane (state_of c.loop-turn.engine) t.line (left_or c.loop-turn.spent t.lane c.loop-turn.engine) (state_of c.take_turn.new.engine) (turns_submits (map turn_of rest)) takes.goes.state fresh;
       lanes = c.loop-turn.invariant.lanes;
-      others = λ lane ge lt. takes.others lane lt (λ e. absurd (omega (arith, e, ge, simple.0, c.loop-turn.invariant.lanes))) ∙ c.loop-turn.invariant.others lane ge lt;
+      others = λ lane ge lt. takes.others lane lt (λ e. absurd (omega (arith, e, ge, own.0, c.loop-turn.invariant.lanes))) ∙ c.loop-turn.invariant.others lane ge lt;
       drain = takes.drain ∙ c.loop-turn.invariant.drain;
     }
 

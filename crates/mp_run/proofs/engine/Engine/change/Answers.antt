@@ -7,9 +7,9 @@ use Rattle.mp_legal.specs.PlainChange.{changed}
 use Rattle.mp_legal.specs.Stepped.{Place}
 use Rattle.mp_legal.specs.ToldCalls.{entry_in, said_of}
 use Rattle.mp_run.specs.Engine.{state_of, beside_of}
-use Rattle.mp_run.proofs.EngineSteps.{IsTurn, turn_at, turn_told, turn_keeps, did_paid, spent_paid, pays_spent}
+use Rattle.mp_run.proofs.EngineSteps.{IsTurn, turn_at, turn_told, turn_stands, did_paid, spent_paid, pays_spent}
 use Rattle.mp_run.proofs.EngineChange.{told_still}
-use Rattle.mp_run.proofs.KeepsLists.{change_keeps}
+use Rattle.mp_run.proofs.KeeperKept.{change_stands, changed_same}
 use Rattle.mp_run.proofs.engine.Engine.change.Goals as goal
 
 pub returns-in_err-pay : goal.returns-in_err-pay
@@ -50,9 +50,10 @@ returns c =
         steps = c.change_is_the_plain_step.ensures at c.args.ctrl c.args.op (told_core c.pay.new.plain) (told_core c.change-end.new.steps) ending c.change-end.result.note h.0 (unpacked e.plain.words) (beside_of e) h.1 (turn_at c.args.lane e c.pay.new.plain t);
         beside = refl;
         flights = λ other apart. refl;
-        keeps = change_keeps c.args.ctrl c.args.op _ (told_core c.pay.new.plain) (told_core c.change-end.new.steps) ending c.change-end.result.note h.0 (unpacked e.plain.words) (unpacked c.change-end.new.steps.words) h.1 (turn_told c.args.lane e c.pay.new.plain t) refl (turn_keeps c.args.lane e c.pay.new.plain t);
+        keeper = refl;
+        stands = change_stands c.args.ctrl c.args.op _ (told_core c.pay.new.plain) (told_core c.change-end.new.steps) ending c.change-end.result.note h.0 h.1 e.keeper (turn_stands c.args.lane e c.pay.new.plain t);
+        same = changed_same e.keeper at (state_of e) c.args.ctrl c.args.op c.requires.op c.requires.tied.keeper.sound c.requires.tied.keeps;
         rows = c.in_ok-push_change.ensures.rows;
-        orders = c.in_ok-push_change.ensures.orders;
         noted = c.push.ensures.events ∙ (λ i. c.reserve.ensures.events i ++ map (event.At c.args.line) (sym c.said_of-said.ensures i));
       });
     }

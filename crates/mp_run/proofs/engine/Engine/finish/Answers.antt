@@ -18,9 +18,9 @@ use Rattle.mp_run.specs.declared.engine.Engine.{Engine}
 use Rattle.mp_run.specs.Engine.{state_of, left_of, beside_of, IsPaid, Pays}
 use Rattle.mp_run.specs.Requesting.{FinishesOne}
 use Rattle.mp_run.proofs.Standing.{sent_there}
-use Rattle.mp_run.proofs.EngineSteps.{IsTurn, turn_at, turn_told, turn_keeps, did_paid, spent_paid, pays_spent}
+use Rattle.mp_run.proofs.EngineSteps.{IsTurn, turn_at, turn_stands, did_paid, spent_paid, pays_spent}
 use Rattle.mp_run.proofs.EngineFinish.{finish_is, request_ends, was_sent, with_end_is, end_event_is, landed_is, landed_others}
-use Rattle.mp_run.proofs.KeepsLists.{finish_keeps}
+use Rattle.mp_run.proofs.KeeperKept.{finish_stands, finished_same}
 use Rattle.mp_run.proofs.engine.Engine.finish.Goals as goal
 
 pub returns-in_err-pay : goal.returns-in_err-pay
@@ -70,7 +70,7 @@ returns c =
     let y = with_end g s.after (beside_of e) in
     let step = finished answers g.lane (state_of e) g in
     let lanes = (c.requires.tied.lanes g.lane k.lane).lanes in
-    let f : Engine = record { plain = c.finish-last.new.steps; flights = with_item e.flights c.get.result c.land.new.self; waiting = c.take_back.new.waiting; requests = c.finish-last.new.self; made = c.take_back.new.made } in
+    let f : Engine = record { plain = c.finish-last.new.steps; keeper = e.keeper; flights = with_item e.flights c.get.result c.land.new.self; waiting = c.take_back.new.waiting; requests = c.finish-last.new.self; made = c.take_back.new.made } in
     let place : c.get.result ≡ g.lane = c.get.ensures.number in
     record {
       pays = subst (λ (z : Flight). IsPaid z.lane (paid_if 1 (count_by came_back (finished answers z.lane (state_of e) z).events) (finished answers z.lane (state_of e) z) (state_of e) (left_of z.lane e)) (Some (left_of z.lane f)) e f c.args.notes.now.events c.push.new.self.events) is
@@ -87,9 +87,10 @@ returns c =
                 (landed_is (beside_of e).flights c.get.result g.lane g.req c.index_mut.result.now c.land.new.self place (omega (arith, place, k.lane, lanes)) c.index_mut.ensures.value c.land.ensures)
                 c.in_ok-take_back.ensures.listed refl refl refl refl;
             flights = λ other apart. landed_others (beside_of e).flights c.get.result g.lane other c.land.new.self place apart;
-            keeps = finish_keeps answers a b g s.before s.after s.answer (unpacked e.plain.words) (unpacked c.finish-last.new.steps.words) s.finishes (turn_told g.lane e c.pay.new.plain t) refl (turn_keeps g.lane e c.pay.new.plain t);
+            keeper = refl;
+            stands = finish_stands answers a b g s.before s.after s.answer s.finishes e.keeper (turn_stands g.lane e c.pay.new.plain t);
+            same = finished_same answers g.lane (state_of e) g;
             rows = c.in_ok-take_back.ensures.rows;
-            orders = c.in_ok-take_back.ensures.orders;
             noted = c.push.ensures.events ∙ (λ i. c.reserve.ensures.events i ++ end_event_is answers a b g c.in_ok-hop.hop e.requests c.finish-last.new.self last s c.in_ok-hop.ensures.hop i);
           }));
     }

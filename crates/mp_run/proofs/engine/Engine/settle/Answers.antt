@@ -1,4 +1,4 @@
-use Rattle.std.proofs.Common.{◌≡◌, ◌<◌, List, [], get_or, set, sym, ap, ◌∙◌, subst, arith}
+use Rattle.std.proofs.Common.{◌≡◌, ◌<◌, List, [], get_or, set, refl, sym, ap, ◌∙◌, subst, arith}
 use Rattle.std.specs.Vec.{with_item}
 use Rattle.std.proofs.lemmas.List.{get_or_default}
 use Rattle.mp_words.specs.declared.flight.Flight.{Flight}
@@ -16,7 +16,7 @@ index-requires c = let lanes = (c.requires.tied.lanes 0 (omega arith)).lanes in 
 
 -- the engine after it
 abbrev after : goal.After-drop-flights → Engine
-after c = record { plain = c.end_each.new.steps; flights = with_item c.args.self.now.flights c.get-place.result c.make.result; waiting = c.args.self.now.waiting; requests = c.args.self.now.requests; made = c.args.self.now.made }
+after c = record { plain = c.end_each.new.steps; keeper = c.args.self.now.keeper; flights = with_item c.args.self.now.flights c.get-place.result c.make.result; waiting = c.args.self.now.waiting; requests = c.args.self.now.requests; made = c.args.self.now.made }
 
 ended : (c : goal.After-drop-flights) → Ended c.args.lane c.args.self.now (after c) c.turn.new.self
 ended c =
@@ -32,6 +32,7 @@ ended c =
     at.flights ∙ ap (λ (z : Core). get_or fs z.lane []) t.core ∙ ap (λ n. get_or fs n []) (sym number) ∙ sym read ∙ sym c.in_ok-flights.ensures.all ∙ sym c.deref.ensures.value in
     record {
       turn = t;
+      keeper = refl;
       ends = subst (λ (z : List Flight). EndsEach z (told_core c.turn.new.self) (told_core c.end_each.new.steps)) (sym own) c.end_each.ensures;
       beside = λ i. record (beside_of e) { flights = set fs (number i) (c.make.ensures i) };
     }

@@ -7,9 +7,9 @@ use Rattle.mp_legal.specs.Drain.{is_sent}
 use Rattle.mp_legal.specs.PlainSubmit.{submitted}
 use Rattle.mp_legal.specs.ToldCalls.{with_try, try_event}
 use Rattle.mp_run.specs.Engine.{state_of, beside_of}
-use Rattle.mp_run.proofs.EngineSteps.{IsTurn, turn_at, turn_told, turn_keeps, did_paid, spent_paid, pays_spent}
+use Rattle.mp_run.proofs.EngineSteps.{IsTurn, turn_at, turn_stands, did_paid, spent_paid, pays_spent}
 use Rattle.mp_run.proofs.EngineSubmit.{with_try_is, put_others, event_is, step_is, request_was, sends}
-use Rattle.mp_run.proofs.KeepsLists.{submit_keeps}
+use Rattle.mp_run.proofs.KeeperKept.{submit_stands, submitted_same}
 use Rattle.mp_run.proofs.engine.Engine.submit.Goals as goal
 
 pub returns-in_err-pay-clause-pays : goal.returns-in_err-pay-clause-pays
@@ -42,9 +42,10 @@ returns-clause-pays c =
           (request_was c.args.near.now a b c.args.req e.requests c.submit.new.self c.in_ok-answer.answer (state_of e) s refl));
       beside = with_try_is c.args.near.now a b c.args.lane c.args.req e.requests c.submit.new.self c.in_ok-answer.answer (beside_of e) _ s lane_is refl refl c.in_ok-end.ensures.flights c.in_ok-end.ensures.waiting refl refl refl refl;
       flights = λ other apart. ap (λ fs. get_or fs other []) c.in_ok-end.ensures.flights ∙ put_others c.args.lane other c.in_ok-answer.answer (beside_of e).flights apart;
-      keeps = submit_keeps c.args.near.now a b s.before s.after c.in_ok-answer.answer s.made (unpacked e.plain.words) (unpacked c.submit.new.steps.words) s.submits (turn_told c.args.lane e c.pay.new.plain t) refl (turn_keeps c.args.lane e c.pay.new.plain t);
+      keeper = refl;
+      stands = submit_stands c.args.near.now a b s.before s.after c.in_ok-answer.answer s.made s.submits e.keeper (turn_stands c.args.lane e c.pay.new.plain t);
+      same = submitted_same c.args.near.now c.args.lane (state_of e) c.args.req;
       rows = sym (append-nil e.made.rows.items);
-      orders = refl;
       noted = c.push.ensures.events ∙ (λ i. c.reserve.ensures.events i ++ event_is c.args.near.now a b c.args.req c.in_ok-hop.hop c.in_ok-end.end e.requests c.submit.new.self c.in_ok-answer.answer s c.in_ok-hop.ensures.hop c.in_ok-end.ensures.end i ∷ []);
     })
 

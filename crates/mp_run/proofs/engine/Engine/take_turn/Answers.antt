@@ -9,7 +9,6 @@ use Rattle.mp_legal.specs.PlainLine.{finishes, flights_of}
 use Rattle.mp_legal.specs.Stepped.{Place}
 use Rattle.mp_legal.specs.Units.{pay_line}
 use Rattle.mp_run.specs.Engine.{state_of, left_of}
-use Rattle.mp_script.specs.Facts.{IsSimple}
 use Rattle.mp_run.proofs.Ends.{there_of}
 use Rattle.mp_run.proofs.LineSound.{leaves_sound, sound_finishes, turn_sound}
 use Rattle.mp_run.proofs.engine.Engine.take_turn.Goals as goal
@@ -29,7 +28,6 @@ returns-in-Some-clause-sound c =
     let a = c.args.self.now in
     let n : Numbered1 = c.in-Some.numbered in
     let i : Inputs = inputs_for c.args.world.now c.args.script.now in
-    let simple : IsSimple n.line = rw c.in-Some.is at c.requires.simple in
     let fresh : (req : ℕ) → has (submit_of n.line) req ≡ true → has_req req (state_of a).requests ≡ false = rw c.in-Some.is at c.requires.fresh in
-    turn_sound c.take_line.result i c.args.turn.lane _ n a c.take_line.new.self c.args.notes.now.events c.take_line.new.notes.events c.in-Some.numbered-is c.requires.sound simple fresh
+    turn_sound c.take_line.result i c.args.turn.lane _ n a c.take_line.new.self c.args.notes.now.events c.take_line.new.notes.events c.in-Some.numbered-is c.requires.sound fresh
     c.take_line.ensures.small c.take_line.ensures.pays
