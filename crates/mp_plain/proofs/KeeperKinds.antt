@@ -58,7 +58,7 @@ same_mirror m n r lane k low h later =
     let o = mirror m r lane low h in
     record { keeper = o.keeper; keeping = refl; left = o.left; inside = o.inside; flights = o.flights; order = (let a = o.order in let b = later.order in omega arith); rows = λ s. (let a = o.rows s in let b = later.rows s in omega arith) }
 
--- K17
+-- a clear of a current word
 pub cleared_stands : (m : Memory) (r : Ruled) (lane node slot : ℕ) → lane < 17 → node < 8 → Stands m r → Stands (cleared_in node slot m) (keeper_turn lane (view.cleared node slot) r)
 cleared_stands m r lane node slot low range h =
     let n : Memory = cleared_in node slot m in
@@ -80,7 +80,7 @@ cleared_core home lane m n r node slot low h =
     ap (λ (s : Start). core_of (begun s) home lane (put (begun r.seats.keeping.start) lane (view.cleared node slot (view_of lane r.seats)) r.seats) n) (clear_start (view_of lane r.seats).role node slot r.seats.keeping)
     ∙ core_step home lane m n r (view.cleared node slot (view_of lane r.seats)) low h
 
--- K4
+-- a scan
 pub scanned_stands : (m : Memory) (r : Ruled) (lane side : ℕ) → lane < 17 → side < 2 → Stands m r → Stands m (keeper_turn lane (view.scanned side (side_at m side).entries (side_at m side).inside (last_version (keeper_of r))) r)
 scanned_stands m r lane side low range h =
     let later : NotOlder m m = same_words m m refl refl in
@@ -89,7 +89,7 @@ scanned_stands m r lane side low range h =
     (kept.k4 r.seats.keeping.start 0 (keeper_of r) side range refl m (views_of r) h.holds refl)
     (same_mirror m m r lane v.keeping low h later)
 
--- K5
+-- a flip
 pub flipped_stands : (m : Memory) (r : Ruled) (lane : ℕ) → lane < 17 → Stands m r → Stands (flipped_in m) (keeper_turn lane view.flipped r)
 flipped_stands m r lane low h =
     let later : NotOlder m (flipped_in m) = same_words m (flipped_in m) refl refl in
@@ -98,7 +98,7 @@ flipped_stands m r lane low h =
     (kept.k5 r.seats.keeping.start 0 (keeper_of r) refl m (views_of r) h.holds refl)
     (same_mirror m (flipped_in m) r lane v.keeping low h later)
 
--- K9
+-- a load of a row
 pub held_stands : (m : Memory) (r : Ruled) (lane slot : ℕ) → lane < 17 → Stands m r → Stands m (keeper_turn lane (view.row_held slot (row_at m slot)) r)
 held_stands m r lane slot low h =
     let o = mirror m r lane low h in
@@ -111,7 +111,7 @@ held_stands m r lane slot low h =
 pub used_here : (m : Memory) (r : Ruled) (lane slot : ℕ) → Stands m r → is_given (row_at m slot) ≡ is_used (status_at slot (view_of lane r.seats))
 used_here m r lane slot h = row_used r.seats.keeping.start 0 (keeper_of r) slot refl m (views_of r) h.holds refl
 
--- K12
+-- a load of a depth
 pub looked_stands : (m : Memory) (r : Ruled) (lane slot : ℕ) → lane < 17 → Stands m r → Stands m (keeper_turn lane (view.depth_looked slot (depth_at m slot)) r)
 looked_stands m r lane slot low h =
     let later : NotOlder m m = same_words m m refl refl in
@@ -120,7 +120,7 @@ looked_stands m r lane slot low h =
     (kept.k12_keeper r.seats.keeping.start 0 (keeper_of r) slot refl m (views_of r) h.holds refl)
     (same_mirror m m r lane v.keeping low h later)
 
--- K10
+-- a row change
 pub row_kept_stands : (m : Memory) (r : Ruled) (lane slot : ℕ) (old : Row) (o : Op) (by : Maker) → lane < 17 → slot < 15 → 1 ≤ (view_of lane r.seats).left → MayKeep o (status_at slot (view_of lane r.seats)) → row_at m slot ≡ old → Stands m r
     → Stands (row_in slot (row_after old o) m) (unit_turn lane (view.row_kept (entry_of slot old o by)) r)
 row_kept_stands m r lane slot old o by low range some_left may is h =
@@ -157,7 +157,7 @@ row_kept_stands m r lane slot old o by low range some_left may is h =
     rule op.Expire may = absurd may
     rule op.Pending may = absurd may
 
--- K10 that found another row
+-- a row change that found another row
 pub keep_moved_stands : (m : Memory) (r : Ruled) (lane slot : ℕ) → lane < 17 → 1 ≤ (view_of lane r.seats).left → Stands m r → Stands m (unit_turn lane (view.keep_moved slot (row_at m slot)) r)
 keep_moved_stands m r lane slot low some_left h =
     let k = mirror m r lane low h in
@@ -208,7 +208,7 @@ unlisted_far order fits s far =
     let n = length-take order.len order.slots in
     none_has (take order.len order.slots) s (λ i l. let low : i < order.len = omega arith in let f = fits.slots_fit i low in let e = get_or-take order.len order.slots i 0 low in omega arith) far
 
--- K11
+-- a store of the list
 pub order_stored_stands : (m : Memory) (r : Ruled) (lane : ℕ) (e : OrderEntry) → lane < 17 → 1 ≤ (view_of lane r.seats).left → IsNext (view_of lane r.seats) e.order → FitsOrderWord e.order → Stands m r → Stands (order_in e.order m) (unit_turn lane (view.order_stored e) r)
 order_stored_stands m r lane e low some_left next fits h =
     let k = mirror m r lane low h in

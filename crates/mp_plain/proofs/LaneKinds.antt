@@ -44,7 +44,7 @@ use Rattle.mp_plain.specs.Lanes.{part_of, views_of, lane_turn}
 use Rattle.mp_plain.specs.Stands.{Mirrors, Stands}
 use Rattle.mp_plain.proofs.Lanes.{NotOlder, same_words, part_here, mirror, lane_stands}
 
--- K1
+-- a load of the side index
 pub passed_stands : (m : Memory) (r : Ruled) (lane : ℕ) → lane < 17 → Stands m r → Stands m (lane_turn lane view.passed r)
 passed_stands m r lane low h =
     let k = mirror m r lane low h in
@@ -52,7 +52,7 @@ passed_stands m r lane low h =
     (kept.k1 r.seats.keeping.start (suc lane) (part_of lane r) m (views_of r) h.holds (part_here m r lane low h))
     record { keeper = k.keeper; keeping = refl; left = k.left; inside = k.inside; flights = k.flights; order = k.order; rows = k.rows }
 
--- K2
+-- an enter
 pub entered_stands : (m : Memory) (r : Ruled) (lane side : ℕ) → lane < 17 → side < 2 → (view_of lane r.seats).inside ≡ None → 1 ≤ (view_of lane r.seats).left → Stands m r → Stands (entered_in side m) (lane_turn lane (view.entered (opened lane side (side_at m side).entries)) r)
 entered_stands m r lane side low range closed some_left h =
     let k = mirror m r lane low h in
@@ -62,7 +62,7 @@ entered_stands m r lane side low range closed some_left h =
     (kept.k2 r.seats.keeping.start (suc lane) (part_of lane r) lane side range (k.inside ∙ closed) l m (views_of r) h.holds (part_here m r lane low h))
     record { keeper = k.keeper; keeping = refl; left = ap (λ (n : ℕ). n - 1) k.left; inside = refl; flights = k.flights; order = k.order; rows = k.rows }
 
--- K3
+-- a leave
 pub finished_stands : (m : Memory) (r : Ruled) (lane : ℕ) (s : Section) → lane < 17 → (view_of lane r.seats).inside ≡ Some s → Stands m r → Stands (left_in s.note.side m) (lane_turn lane (view.finished s) r)
 finished_stands m r lane s low is_open h =
     let k = mirror m r lane low h in
@@ -70,7 +70,7 @@ finished_stands m r lane s low is_open h =
     (kept.k3 r.seats.keeping.start (suc lane) (part_of lane r) s (k.inside ∙ is_open) m (views_of r) h.holds (part_here m r lane low h))
     record { keeper = k.keeper; keeping = refl; left = k.left; inside = refl; flights = k.flights; order = k.order; rows = k.rows }
 
--- K8
+-- a load of the list
 pub order_stands : (m : Memory) (r : Ruled) (lane : ℕ) (s : Section) → lane < 17 → (view_of lane r.seats).inside ≡ Some s → ReadsNothing s.note → Stands m r → Stands m (lane_turn lane (view.order_read m.order (with_note (order_noted m.order s.note) s)) r)
 order_stands m r lane s low is_open nothing h =
     let k = mirror m r lane low h in
@@ -93,7 +93,7 @@ part_reaches m r lane slot s low is_open lists flies h =
 pub part_flies : (m : Memory) (r : Ruled) (lane : ℕ) (f : Flight) → lane < 17 → has_flight f (view_of lane r.seats) ≡ true → Stands m r → has_flight f (part_of lane r) ≡ true
 part_flies m r lane f low has h = ap (list_any (is_flight f)) (mirror m r lane low h).flights ∙ has
 
--- K9
+-- a load of a row
 pub row_stands : (m : Memory) (r : Ruled) (lane slot : ℕ) (s : Section) → lane < 17 → (view_of lane r.seats).inside ≡ Some s → Lists s.note slot → MayReach s.note slot (view_of lane r.seats) → Stands m r → Stands m (lane_turn lane (view.row_read slot (row_at m slot) (with_note (row_noted slot (row_at m slot) s.note) s)) r)
 row_stands m r lane slot s low is_open lists flies h =
     let k = mirror m r lane low h in
@@ -120,7 +120,7 @@ one_inside m r lane s low is_open h = some_inside s.note.side _ _ _ (views_of r)
 pub given_here : (m : Memory) (r : Ruled) (lane slot : ℕ) (s : Section) → lane < 17 → (view_of lane r.seats).inside ≡ Some s → Reaches slot s.note (part_of lane r) → Stands m r → is_given (row_at m slot) ≡ true
 given_here m r lane slot s low is_open reach h = reached_given r.seats.keeping.start (suc lane) (part_of lane r) s slot ((mirror m r lane low h).inside ∙ is_open) reach m (views_of r) h.holds (part_here m r lane low h)
 
--- K9 of a flight's slot
+-- a load of a row of a flight's slot
 pub flight_stands : (m : Memory) (r : Ruled) (lane : ℕ) (s : Section) (f : Flight) → lane < 17 → (view_of lane r.seats).inside ≡ Some s → has_flight f (view_of lane r.seats) ≡ true → ReadsAlone f.slot s.note → Stands m r → Stands m (lane_turn lane (view.row_read f.slot (row_at m f.slot) (with_note (flight_noted f.slot (row_at m f.slot) s.note) s)) r)
 flight_stands m r lane s f low is_open has alone h =
     let k = mirror m r lane low h in
@@ -129,7 +129,7 @@ flight_stands m r lane s f low is_open has alone h =
     (kept.k9_flight r.seats.keeping.start (suc lane) (part_of lane r) s f.slot (k.inside ∙ is_open) alone (has_flies f (part_of lane r) (part_flies m r lane f low has h)) m (views_of r) h.holds (part_here m r lane low h))
     record { keeper = k.keeper; keeping = refl; left = k.left; inside = refl; flights = k.flights; order = k.order; rows = seen_below m f.slot (view_of lane r.seats) k.rows }
 
--- K10 that found another row
+-- a row change that found another row
 pub moved_stands : (m : Memory) (r : Ruled) (lane slot : ℕ) (s : Section) → lane < 17 → (view_of lane r.seats).inside ≡ Some s → Stands m r → Stands m (lane_turn lane (view.row_moved slot (row_at m slot) (record s { tried = true })) r)
 moved_stands m r lane slot s low is_open h =
     let k = mirror m r lane low h in
@@ -152,7 +152,7 @@ next_seen m x new v low sized next olds s =
     greatest_below s x new.version (row_at (row_in x new m) s).version v.seen.rows (omega arith)
     (λ e. let here : (row_at (row_in x new m) s).version ≡ new.version = subst (λ (f : ℕ → Row). (f s).version ≡ new.version) (sym (row_put m x new sized low)) (by_case (λ b. (cond b new (row_at m s)).version ≡ new.version) x s (λ _. refl) (λ d. absurd (d e))) in omega arith)
 
--- K10 with the old row there
+-- a row change with the old row there
 pub changed_stands : (m : Memory) (r : Ruled) (lane slot : ℕ) (s : Section) (old : Row) (o : Op) (by : Maker) → lane < 17 → slot < 15 → (view_of lane r.seats).inside ≡ Some s → Reaches slot s.note (part_of lane r) → IsLaneOp o → Changes old o → s.tried ≡ false → row_at m slot ≡ old → Stands m r
     → Stands (row_in slot (row_after old o) m) (lane_turn lane (view.row_changed (entry_of slot old o by) (record s { tried = true })) r)
 changed_stands m r lane slot s old o by low range is_open reach lane_op changes once is h =
@@ -177,7 +177,7 @@ older_row m r lane slot s old low is_open has apart h =
     let v = (h.holds.rows slot).each (suc lane) (part_of lane r) (part_here m r lane low h) in
     older r.seats.keeping.start slot _ old m (views_of r) v.to (read_here m r lane slot s old low is_open has h) apart
 
--- K12
+-- a load of a depth
 pub depth_stands : (m : Memory) (r : Ruled) (lane slot : ℕ) (s : Section) → lane < 17 → (view_of lane r.seats).inside ≡ Some s → Stands m r → Stands m (lane_turn lane (view.noted (with_note (depth_noted slot (depth_at m slot) s.note) s)) r)
 depth_stands m r lane slot s low is_open h =
     let k = mirror m r lane low h in
@@ -186,7 +186,7 @@ depth_stands m r lane slot s low is_open h =
     (kept.k12 r.seats.keeping.start (suc lane) (part_of lane r) s slot (depth_at m slot) (k.inside ∙ is_open) m (views_of r) h.holds (part_here m r lane low h))
     record { keeper = k.keeper; keeping = refl; left = k.left; inside = refl; flights = k.flights; order = k.order; rows = k.rows }
 
--- K15
+-- a load of a current word
 pub current_stands : (m : Memory) (r : Ruled) (lane : ℕ) (s : Section) (c : Option ℕ) → lane < 17 → (view_of lane r.seats).inside ≡ Some s → Stands m r → Stands m (lane_turn lane (view.noted (with_note (current_noted c s.note) s)) r)
 current_stands m r lane s c low is_open h =
     let k = mirror m r lane low h in
@@ -195,7 +195,7 @@ current_stands m r lane s c low is_open h =
     (kept.k15 r.seats.keeping.start (suc lane) (part_of lane r) s c (k.inside ∙ is_open) m (views_of r) h.holds (part_here m r lane low h))
     record { keeper = k.keeper; keeping = refl; left = k.left; inside = refl; flights = k.flights; order = k.order; rows = k.rows }
 
--- K16
+-- a store of a current word
 pub stored_stands : (m : Memory) (r : Ruled) (lane node : ℕ) (s : Section) (c : Option ℕ) → lane < 17 → node < 8 → (view_of lane r.seats).inside ≡ Some s → MayStore s.note c → Stands m r → Stands (current_in node c m) (lane_turn lane (view.noted s) r)
 stored_stands m r lane node s c low range is_open may h =
     let k = mirror m r lane low h in
@@ -210,7 +210,7 @@ stored_stands m r lane node s c low range is_open may h =
     by None may = kept.k16_none r.seats.keeping.start (suc lane) (part_of lane r) s node range is_part m (views_of r) h.holds (part_here m r lane low h)
     by (Some slot) may = kept.k16 r.seats.keeping.start (suc lane) (part_of lane r) s slot node range is_part may m (views_of r) h.holds (part_here m r lane low h)
 
--- K16 by the keeper
+-- a store of a current word by the keeper
 pub emptied_stands : (m : Memory) (r : Ruled) (lane node : ℕ) → lane < 17 → node < 8 → Stands m r → Stands (current_in node None m) (lane_turn lane view.passed r)
 emptied_stands m r lane node low range h =
     let k = mirror m r lane low h in
@@ -218,7 +218,7 @@ emptied_stands m r lane node low range h =
     (kept.k16_keeper r.seats.keeping.start (suc lane) (part_of lane r) node range m (views_of r) h.holds (part_here m r lane low h))
     record { keeper = k.keeper; keeping = refl; left = k.left; inside = k.inside; flights = k.flights; order = k.order; rows = k.rows }
 
--- K13
+-- a send
 pub flown_stands : (m : Memory) (r : Ruled) (lane slot req : ℕ) (s : Section) → lane < 17 → slot < 15 → (view_of lane r.seats).inside ≡ Some s → HasUsable s.note slot → s.sent ≡ false → Stands m r → Stands (sent_in slot m) (lane_turn lane (view.flown (flight_of lane s slot req) (record s { sent = true })) r)
 flown_stands m r lane slot req s low range is_open usable once h =
     let k = mirror m r lane low h in
@@ -228,7 +228,7 @@ flown_stands m r lane slot req s low range is_open usable once h =
     (kept.k13 r.seats.keeping.start (suc lane) (part_of lane r) s lane slot req range (k.inside ∙ is_open) usable once m (views_of r) h.holds (part_here m r lane low h))
     record { keeper = k.keeper; keeping = refl; left = k.left; inside = refl; flights = ap (λ (fs : List Flight). fs ++ f ∷ []) k.flights; order = k.order; rows = k.rows }
 
--- K14
+-- an end
 pub landed_stands : (m : Memory) (r : Ruled) (lane : ℕ) (f : Flight) → lane < 17 → f.slot < 15 → has_flight f (view_of lane r.seats) ≡ true → Stands m r → Stands (landed_in f.slot m) (lane_turn lane (view.landed f) r)
 landed_stands m r lane f low range has h =
     let k = mirror m r lane low h in

@@ -64,7 +64,7 @@ same_step first cells es views id v w h at same last inside done flights written
     frame first cells es views id v w h at (λ e. sym same ∙ e) (λ l s. absurd (none_held w last l s)) (λ x. ap (on_side x) inside) (λ s. ap (on_slot s) flights)
     (λ P. opened_same P v w inside) (λ P o. noted_same P v w inside done (o id v at)) (λ F. subst (All F) (sym flights)) (λ s o. written s (o id v at))
 
--- K1, K5, and K4, K10, K12 and K17 that find another number than they look for: nothing of the rule's changes
+-- a load of the side index, a flip, and a scan, a row change, a load of a depth and a clear of a current word that find another number than they look for: nothing of the rule's changes
 pub unchanged : (first : First) (cells : Cells) (views : List View) (id : ℕ) (v w : View) → Keeps first cells views → get_elem? views id ≡ some v → w.role ≡ v.role → w.keeping.last ≡ None → w.inside ≡ v.inside → w.done ≡ v.done → w.flights ≡ v.flights → w.entries ≡ v.entries → w.keeping.events ≡ v.keeping.events
     → Keeps first cells (set views id w)
 unchanged first cells views id v w h at same last inside done flights entries events =
@@ -107,7 +107,7 @@ entry_spans first cells es views e is h s at =
     subst (λ (r : Row). (r.version ≤ (cells.rows s).version) × (span (is_going (first.status s)) s r.version es ≡ true → (r.marked ≡ true) × (r.ready ≡ false))) (ap cells.rows (sym at) ∙ is)
     (omega arith, λ z. let g = sym ((h.spans s).now (cells.rows s).version (omega arith)) ∙ z in ((h.slots s).marked ∙ g, (h.slots s).off g))
 
--- K2
+-- an enter
 abbrev pub entered_cells : ℕ → Cells → Cells
 entered_cells x cells = record cells { entries = put cells.entries x (cells.entries x + 1); inside = put cells.inside x (cells.inside x + 1) }
 
@@ -132,7 +132,7 @@ k2 first id v lane x t low closed cells views ticket h at =
       lives = λ s. life_frame s _ _ _ views id v w (h.lives s) (omega arith) at (λ _. opened_one (ReadsLife s (given s es)) w new refl (λ r y. absurd (blank_has lane x t s r y))) (λ o. o);
     }
 
--- K3
+-- a leave
 abbrev pub left_cells : ℕ → Cells → Cells
 left_cells x cells = record cells { inside = put cells.inside x (cells.inside x - 1) }
 
@@ -157,7 +157,7 @@ k3 first id v t is_open cells views h at =
       lives = λ s. life_frame s _ _ _ views id v w (h.lives s) (omega arith) at (λ _. opened_none (ReadsLife s (given s es)) w refl) (λ o. o);
     }
 
--- K4 that found nobody, before the look
+-- a scan that found nobody, before the look
 pub k4 : (first : First) (id : ℕ) (v : View) (x o : ℕ) → x < 2 → v.role ≡ role.Keeper → (cells : Cells) (views : List View) → Keeps first cells views → get_elem? views id ≡ some v → cells.inside x ≡ 0
     → Keeps first cells (set views id (kept (Scans x (cells.entries x) o) v))
 k4 first id v x o low keeper cells views h at nobody =
@@ -175,7 +175,7 @@ k4 first id v x o low keeper cells views h at nobody =
       lives = r.lives;
     })
 
--- K6: the view that is left, and the new one
+-- a split: the view that is left, and the new one
 pub k6 : (first : First) (id : ℕ) (v left right : View) → left.role ≡ v.role → left.keeping.last ≡ None → left.inside ≡ v.inside → left.done ≡ v.done → left.flights ≡ v.flights → left.entries ≡ v.entries → left.keeping.events ≡ v.keeping.events
     → (right.role ≡ role.Keeper → ⊥) → right.inside ≡ None → right.done ≡ [] → right.flights ≡ [] → right.entries ≡ [] → right.keeping.events ≡ [] → right.keeping.last ≡ None
     → (cells : Cells) (views : List View) → Keeps first cells views → get_elem? views id ≡ some v → Keeps first cells (set views id left ++ right ∷ [])
@@ -196,7 +196,7 @@ k6 first id v left right same last inside done flights entries events keeper clo
       lives = λ s. life_more s _ _ l right (r.lives s) closed landed_all;
     }
 
--- K7: the other has no open section and no flight
+-- a join: the other has no open section and no flight
 pub k7 : (first : First) (id : ℕ) (v : View) (other : ℕ) (w : View) → v.role ≡ role.Keeper → w.inside ≡ None → w.flights ≡ [] → (cells : Cells) (views : List View) → Keeps first cells views → get_elem? views id ≡ some v → other ≢ id
     → get_elem? (set views id (joined v w)) other ≡ some w → Keeps first cells (set (set views id (joined v w)) other (spent w))
 k7 first id v other w keeper closed landed cells views h at apart there =
@@ -265,7 +265,7 @@ note_step first id v t u is_open cells views adds h at w same last now done flig
     Hid : ℕ → Status → ℕ → Option Order → Type 0
     Hid s st x o = is_hidden x st ≡ true → in_order s o ≡ false
 
--- K8: the section has read nothing
+-- a load of the list: the section has read nothing
 pub k8 : (first : First) (id : ℕ) (v w : View) (t : Section) → v.inside ≡ Some t → t.note.reading.len ≡ 0 → (cells : Cells) (views : List View) → IsOrder cells.order → Keeps first cells views → get_elem? views id ≡ some v
     → w.role ≡ v.role → w.keeping.last ≡ None → w.inside ≡ Some (record t { note = order_noted cells.order t.note }) → w.done ≡ v.done → w.flights ≡ v.flights → w.keeping.events ≡ v.keeping.events → w.entries ≡ v.entries → Keeps first cells (set views id w)
 k8 first id v w t is_open none cells views lawful h at same last now done flights events entries =
@@ -283,7 +283,7 @@ k8 first id v w t is_open none cells views lawful h at same last now done flight
     (λ s. subst (All (FlightLife s (given s es))) (sym flights))
     (λ s. subst (All (EntrySpan (is_going (first.status s)) s (cells.rows s).version es)) (sym entries)))
 
--- K9: the slot is listed in the reading, and reached
+-- a load of a row: the slot is listed in the reading, and reached
 pub k9 : (first : First) (id : ℕ) (v w : View) (t : Section) (x : ℕ) → v.inside ≡ Some t → Lists t.note x → Reaches x t.note v → (cells : Cells) (views : List View) → Keeps first cells views → get_elem? views id ≡ some v
     → w.role ≡ v.role → w.keeping.last ≡ None → w.inside ≡ Some (record t { note = row_noted x (cells.rows x) t.note }) → w.done ≡ v.done → w.flights ≡ v.flights → w.keeping.events ≡ v.keeping.events → w.entries ≡ v.entries → Keeps first cells (set views id w)
 k9 first id v w t x is_open lists reach cells views h at same last now done flights events entries =
@@ -296,7 +296,7 @@ k9 first id v w t x is_open lists reach cells views h at same last now done flig
       rows = λ s row y. ⊎_elim (λ (e : (x ≡ s) × (row ≡ cells.rows x)). inl (e.1 ∙ ap cells.rows e.0, subst (λ (z : ℕ). Reaches z t.note v) e.0 reach)) (λ (o : HasRow t.note s row). inr o) (row_has x (cells.rows x) t.note s row formed lists y);
     } h at w same last now done flights events (λ s. subst (All (EntrySpan (is_going (first.status s)) s (cells.rows s).version (keeping views))) (sym entries))
 
--- K9 of the slot of a flight of the view
+-- a load of a row of the slot of a flight of the view
 pub k9_flight : (first : First) (id : ℕ) (v w : View) (t : Section) (x : ℕ) → v.inside ≡ Some t → t.note.order ≡ None → 1 ≤ flying x v → (cells : Cells) (views : List View) → Keeps first cells views → get_elem? views id ≡ some v
     → w.role ≡ v.role → w.keeping.last ≡ None → w.inside ≡ Some (record t { note = flight_noted x (cells.rows x) t.note }) → w.done ≡ v.done → w.flights ≡ v.flights → w.keeping.events ≡ v.keeping.events → w.entries ≡ v.entries → Keeps first cells (set views id w)
 k9_flight first id v w t x is_open none flies cells views h at same last now done flights events entries =
@@ -309,13 +309,13 @@ k9_flight first id v w t x is_open none flies cells views h at same last now don
       rows = λ s row y. let e = flight_has x (cells.rows x) t.note s row y in inl (e.1 ∙ ap cells.rows e.0, subst (λ (z : ℕ). Reaches z t.note v) e.0 (inr flies));
     } h at w same last now done flights events (λ s. subst (All (EntrySpan (is_going (first.status s)) s (cells.rows s).version (keeping views))) (sym entries))
 
--- K12, K15 and K16 by a section, and K10 after its word: the note has the same rows
+-- a load of a depth, a load of a current word and a store of a current word by a section, and a row change after its word: the note has the same rows
 pub same_rows : (first : First) (id : ℕ) (v w : View) (t u : Section) → v.inside ≡ Some t → u.note.side ≡ t.note.side → u.note.ticket ≡ t.note.ticket → u.note.order ≡ t.note.order → (IsFormed t.note → IsFormed u.note) → ((s : ℕ) (row : Row) → HasRow u.note s row → HasRow t.note s row) → (cells : Cells) (views : List View) → Keeps first cells views → get_elem? views id ≡ some v
     → w.role ≡ v.role → w.keeping.last ≡ None → w.inside ≡ Some u → w.done ≡ v.done → w.flights ≡ v.flights → w.keeping.events ≡ v.keeping.events → ((s : ℕ) → All (EntrySpan (is_going (first.status s)) s (cells.rows s).version (keeping views)) v.entries → All (EntrySpan (is_going (first.status s)) s (cells.rows s).version (keeping views)) w.entries) → Keeps first cells (set views id w)
 same_rows first id v w t u is_open side ticket order formed rows cells views h at same last now done flights events written =
     note_step first id v t u is_open cells views record { side = side; ticket = ticket; order = order; formed = formed (h.formed id v at t is_open); rows = λ s row y. inr (rows s row y) } h at w same last now done flights events written
 
--- K9 by `keeper_row`
+-- a load of a row by `keeper_row`
 pub k9_keeper : (first : First) (id : ℕ) (v w : View) (x : ℕ) → v.role ≡ role.Keeper → (cells : Cells) (views : List View) → Keeps first cells views → get_elem? views id ≡ some v
     → w.role ≡ v.role → w.keeping.last ≡ Some (record { slot = x; row = cells.rows x }) → w.inside ≡ v.inside → w.done ≡ v.done → w.flights ≡ v.flights → w.entries ≡ v.entries → w.keeping.events ≡ v.keeping.events → Keeps first cells (set views id w)
 k9_keeper first id v w x keeper cells views h at same last inside done flights entries events =
@@ -337,7 +337,7 @@ k9_keeper first id v w x keeper cells views h at same last inside done flights e
 abbrev pub row_cells : ℕ → Row → Cells → Cells
 row_cells x new cells = record cells { rows = put cells.rows x new }
 
--- K10 with Log, Ctrl, Expire or Pending, where the word was the old one, before the view: the slot is reached
+-- a row change with Log, Ctrl, Expire or Pending, where the word was the old one, before the view: the slot is reached
 pub log_cells : (first : First) (id : ℕ) (v : View) (t : Section) (x : ℕ) (new : Row) → v.inside ≡ Some t → Reaches x t.note v → (cells : Cells) (views : List View) → is_given new ≡ is_given (cells.rows x) → new.marked ≡ (cells.rows x).marked → new.ready ≡ (cells.rows x).ready → new.version ≡ (cells.rows x).version + 1 → Keeps first cells views → get_elem? views id ≡ some v
     → Keeps first (row_cells x new cells) views
 log_cells first id v t x new is_open reach cells views taken marked ready version h at =
@@ -362,7 +362,7 @@ log_cells first id v t x new is_open reach cells views taken marked ready versio
           (λ _. h.lives s);
     }
 
--- K10 with a mark of a listed slot that isn't marked, before the entry
+-- a row change with a mark of a listed slot that isn't marked, before the entry
 pub k10_mark : (first : First) (id : ℕ) (v : View) (x : ℕ) (new : Row) → v.role ≡ role.Keeper → status (first.status x) x v.keeping.events ≡ listed → (cells : Cells) (views : List View) → is_given new ≡ is_given (cells.rows x) → new.marked ≡ true → new.ready ≡ false → new.version ≡ (cells.rows x).version + 1 → Keeps first cells views → get_elem? views id ≡ some v
     → Keeps first (row_cells x new cells) (set views id (kept (Marks x new.version) v))
 k10_mark first id v x new keeper own cells views taken marked ready version h at =
@@ -390,7 +390,7 @@ k10_mark first id v x new keeper own cells views taken marked ready version h at
           (λ _. r.lives s);
     })
 
--- K10 with a give of an unlisted free slot, before the entry
+-- a row change with a give of an unlisted free slot, before the entry
 pub k10_give : (first : First) (id : ℕ) (v : View) (x : ℕ) (new : Row) → v.role ≡ role.Keeper → status (first.status x) x v.keeping.events ≡ unused → (cells : Cells) (views : List View) → is_given new ≡ true → new.marked ≡ false → new.version ≡ (cells.rows x).version + 1 → Keeps first cells views → get_elem? views id ≡ some v
     → Keeps first (row_cells x new cells) (set views id (kept (Gives x new.version) v))
 k10_give first id v x new keeper own cells views taken marked version h at =
@@ -418,7 +418,7 @@ k10_give first id v x new keeper own cells views taken marked version h at =
           (λ _. r.lives s);
     })
 
--- K10 with a free of a slot past the second grace period and empty, before the entry
+-- a row change with a free of a slot past the second grace period and empty, before the entry
 pub k10_free : (first : First) (id : ℕ) (v : View) (x : ℕ) (new : Row) → v.role ≡ role.Keeper → status (first.status x) x v.keeping.events ≡ bare → (cells : Cells) (views : List View) → is_given new ≡ false → new.marked ≡ false → new.version ≡ (cells.rows x).version + 1 → Keeps first cells views → get_elem? views id ≡ some v
     → Keeps first (row_cells x new cells) (set views id (kept (Frees x new.version) v))
 k10_free first id v x new keeper own cells views taken marked version h at =
@@ -446,7 +446,7 @@ k10_free first id v x new keeper own cells views taken marked version h at =
           (λ _. r.lives s);
     })
 
--- K11, before the view
+-- a store of the list, before the view
 pub k11 : (first : First) (id : ℕ) (v : View) (o : OrderEntry) → v.role ≡ role.Keeper → o.order.version ≡ (last_order first.order v.keeping.events).version + 1 → ((s : ℕ) → MayOrder (lists s o.order) (status (first.status s) s v.keeping.events))
     → (cells : Cells) (views : List View) → Keeps first cells views → get_elem? views id ≡ some v → Keeps first (record cells { order = o.order }) (set views id (kept (Orders o) v))
 k11 first id v o keeper next may cells views h at =
@@ -465,7 +465,7 @@ k11 first id v o keeper next may cells views h at =
       lives = r.lives;
     })
 
--- K12 by `keeper_depth` that read 0, before the look
+-- a load of a depth by `keeper_depth` that read 0, before the look
 pub k12 : (first : First) (id : ℕ) (v : View) (x : ℕ) → v.role ≡ role.Keeper → (cells : Cells) (views : List View) → Keeps first cells views → get_elem? views id ≡ some v → cells.depths x ≡ 0
     → Keeps first cells (set views id (kept (Zeros x) v))
 k12 first id v x keeper cells views h at nothing =
@@ -486,7 +486,7 @@ k12 first id v x keeper cells views h at nothing =
       lives = r.lives;
     })
 
--- K13: an enabled row of the slot stands in the note, of the flight's version
+-- a send: an enabled row of the slot stands in the note, of the flight's version
 abbrev pub depth_cells : ℕ → ℕ → Cells → Cells
 depth_cells x d cells = record cells { depths = put cells.depths x d }
 
@@ -514,7 +514,7 @@ k13 first id v t f row is_open has on version cells views h at =
     (λ s o. all_more (FlightLife s (given s es)) v.flights f o (λ e. let l = (h.lives s).read id v at t is_open row (subst (λ (y : ℕ). HasRow t.note y row) e has) on in omega arith))
     (λ s o. o))
 
--- K14
+-- an end
 pub k14 : (first : First) (id : ℕ) (v : View) (f : Flight) → has_flight f v ≡ true → (cells : Cells) (views : List View) → Keeps first cells views → get_elem? views id ≡ some v
     → Keeps first (depth_cells f.slot (cells.depths f.slot - 1) cells) (set views id (landed f v))
 k14 first id v f has cells views h at =
@@ -557,14 +557,14 @@ currents_step first cells news es views h named = record {
 abbrev pub current_cells : ℕ → Option ℕ → Cells → Cells
 current_cells i c cells = record cells { currents = put cells.currents i c }
 
--- K16 of a slot whose enabled row is in the note, before the view
+-- a store of a current word of a slot whose enabled row is in the note, before the view
 pub k16 : (first : First) (id : ℕ) (v : View) (t : Section) (x i : ℕ) (row : Row) → v.inside ≡ Some t → HasRow t.note x row → is_enabled row ≡ true → (cells : Cells) (views : List View) → Keeps first cells views → get_elem? views id ≡ some v
     → Keeps first (current_cells i (Some x) cells) views
 k16 first id v t x i row is_open has on cells views h at =
     currents_step first cells _ (keeping views) views h (λ s. store_named s x i _ cells.currents (h.slots s).unnamed
     (λ e q. row_unbarred s _ _ _ _ _ views id v t row (h.slots s) at is_open (subst (λ (y : ℕ). HasRow t.note y row) e has) on (unnamed-barred i t.note.side _ q)))
 
--- K16 of none, and K17: the word becomes none, or stays
+-- a store of a current word of none, and a clear of a current word: the word becomes none, or stays
 pub less_named : (first : First) (i : ℕ) (c : Option ℕ) → (cells : Cells) (es : List Event) (views : List View) → Graces first cells es views → (c ≡ None) ⊎ (c ≡ cells.currents i) → Graces first (current_cells i c cells) es views
 less_named first i c cells es views h is = currents_step first cells _ es views h (λ s. clear_named s i c _ cells.currents (h.slots s).unnamed is)
 
@@ -576,7 +576,7 @@ pub unless_not : (x : ℕ) (c : Option ℕ) → unless_slot x c ≡ Some x → �
 unless_not x None e = none_slot x e
 unless_not x (Some y) e = by_case (λ b. (if b then None else Some y) ≡ Some x → ⊥) y x (λ _ f. none_slot x f) (λ d f. d (the_slot y x f)) e
 
--- K17 by the keeper
+-- a clear of a current word by the keeper
 pub k17_keeper : (first : First) (id : ℕ) (v : View) (x i : ℕ) → v.role ≡ role.Keeper → (cells : Cells) (views : List View) → Keeps first cells views → get_elem? views id ≡ some v
     → Keeps first (current_cells i (unless_slot x (cells.currents i)) cells) (set views id (kept (Clears i x) v))
 k17_keeper first id v x i keeper cells views h at =

@@ -87,7 +87,7 @@ calm_step start id v w m n views h at sized same kept_graces sums lanes entries 
 event_same : (start : Start) (id : ℕ) (v w : View) (e : Event) (m : Memory) (views : List View) → Holds start m views → get_elem? views id ≡ some v → v.role ≡ role.Keeper → w.keeping.events ≡ e ∷ v.keeping.events → ((k : ℕ) (es : List Event) → order_at k (start_order start) (e ∷ es) ≡ order_at k (start_order start) es) → (k : ℕ) → order_at k (start_order start) (keeping (set views id w)) ≡ order_at k (start_order start) (keeping views)
 event_same start id v w e m views h at keeper events same k = ap (order_at k (start_order start)) (keeping-event views id v w e (h.graces.keeper id v at keeper) at events) ∙ same k (keeping views)
 
--- K1
+-- a load of the side index
 pub k1 : (start : Start) (id : ℕ) (v : View) (m : Memory) (views : List View) → Holds start m views → get_elem? views id ≡ some v → Holds start m (set views id (view.passed v))
 k1 start id v m views h at =
     let w : View = view.passed v in
@@ -101,7 +101,7 @@ k1 start id v m views h at =
 pub k1_tells : (start : Start) (m : Memory) (views : List View) → Holds start m views → m.index < 2
 k1_tells start m views h = h.lanes.range
 
--- K2
+-- an enter
 pub k2 : (start : Start) (id : ℕ) (v : View) (lane side : ℕ) → side < 2 → v.inside ≡ None → 1 ≤ v.left → (m : Memory) (views : List View) → Holds start m views → get_elem? views id ≡ some v → Holds start (entered_in side m) (set views id (entered (opened lane side (side_at m side).entries) v))
 k2 start id v lane side low closed some_left m views h at =
     let t : ℕ = (side_at m side).entries in
@@ -117,7 +117,7 @@ k2 start id v lane side low closed some_left m views h at =
     (λ Q. noted_enter (λ n. (o : Order) → n.order ≡ Some o → Q o) (opened lane side t) v (λ o e. absurd (none_order o e)))
     (λ k. ap (order_at k (start_order start)) (keeping-same views id v w at refl)) refl refl
 
--- K3
+-- a leave
 pub k3 : (start : Start) (id : ℕ) (v : View) (t : Section) → v.inside ≡ Some t → (m : Memory) (views : List View) → Holds start m views → get_elem? views id ≡ some v → Holds start (left_in t.note.side m) (set views id (finished t v))
 k3 start id v t is_open m views h at =
     let x : ℕ = t.note.side in
@@ -133,7 +133,7 @@ k3 start id v t is_open m views h at =
     (λ Q. noted_end (λ n. (o : Order) → n.order ≡ Some o → Q o) t v is_open)
     (λ k. ap (order_at k (start_order start)) (keeping-same views id v w at refl)) refl refl
 
--- K4
+-- a scan
 pub k4 : (start : Start) (id : ℕ) (v : View) (side : ℕ) → side < 2 → v.role ≡ role.Keeper → (m : Memory) (views : List View) → Holds start m views → get_elem? views id ≡ some v → Holds start m (set views id (view.scanned side (side_at m side).entries (side_at m side).inside (last_version v) v))
 k4 start id v side low keeper m views h at = dite (ℕ_discrete n 0) nobody somebody
   where
@@ -169,7 +169,7 @@ k4 start id v side low keeper m views h at = dite (ℕ_discrete n 0) nobody some
         (graces.unchanged (first_of start) (cells_of m) views id v w h.graces at refl refl refl refl refl refl events)
         (λ k. ap (order_at k (start_order start)) (keeping-same views id v w at events))
 
--- K5
+-- a flip
 pub k5 : (start : Start) (id : ℕ) (v : View) → v.role ≡ role.Keeper → (m : Memory) (views : List View) → Holds start m views → get_elem? views id ≡ some v → Holds start (flipped_in m) (set views id (view.flipped v))
 k5 start id v keeper m views h at =
     let w : View = view.flipped v in
@@ -181,7 +181,7 @@ k5 start id v keeper m views h at =
     (lanes_step m.index (1 - m.index) views id v w h.lanes at refl (λ _. refl) (omega arith) (λ z. ap (λ (i : ℕ). 1 - i) (h.lanes.own id v at z)) (λ j d z. absurd (d (z ∙ sym mine))) (λ e. record { left = e.left; inside = e.inside; done = e.done; flights = e.flights; entries = e.entries }))
     refl refl refl (λ s Q o. o) (λ Q o. o) (λ k. ap (order_at k (start_order start)) (keeping-same views id v w at refl)) refl refl
 
--- K6
+-- a split
 pub k6 : (start : Start) (id : ℕ) (v : View) (lane n : ℕ) → v.role ≡ role.Keeper → n ≤ v.left → times lane v.keeping.out ≡ 0 → (m : Memory) (views : List View) → Holds start m views → get_elem? views id ≡ some v → Holds start m (set views id (view.kept_part lane n v) ++ view.new_part lane n v ∷ [])
 k6 start id v lane n keeper enough fresh m views h at =
     let left : View = view.kept_part lane n v in
@@ -221,7 +221,7 @@ k6 start id v lane n keeper enough fresh m views h at =
     keeper_spent : role.Keeper ≡ role.Spent → ⊥
     keeper_spent e = subst is_keeper e tt
 
--- K7: the other has no open section and no flight
+-- a join: the other has no open section and no flight
 pub k7 : (start : Start) (id : ℕ) (v : View) (other : ℕ) (w : View) → v.role ≡ role.Keeper → w.inside ≡ None → w.flights ≡ [] → (m : Memory) (views : List View) → Holds start m views → get_elem? views id ≡ some v → other ≢ id → get_elem? (set views id (view.joined v w)) other ≡ some w → Holds start m (set (set views id (view.joined v w)) other (view.spent w))
 k7 start id v other w keeper closed landed m views h at apart there =
     let both : View = view.joined v w in
@@ -284,7 +284,7 @@ same_hold start id v t u is_open side ticket order_same_as tried sent rows_same 
     (λ s. view_calm s (start_row start s) (row_at m s) views v w ((h.rows s).each id v at) refl refl refl (λ Q o. noted_note (Reads Q s) u v w refl refl (λ r x. o.0 t is_open r (rows_same s r x)) o))
     (order_same (start_order start) m.order (keeping views) id v w (h.orders id v at) refl (λ Q o. noted_note (λ n. (y : Order) → n.order ≡ Some y → Q y) u v w refl refl (λ y e. o.0 t is_open y (sym order_same_as ∙ e)) o))
 
--- K8
+-- a load of the list
 pub k8 : (start : Start) (id : ℕ) (v : View) (t : Section) → v.inside ≡ Some t → ReadsNothing t.note → (m : Memory) (views : List View) → Holds start m views → get_elem? views id ≡ some v → Holds start m (set views id (view.order_read m.order (with_note (order_noted m.order t.note) t) v))
 k8 start id v t is_open nothing m views h at =
     let u : Section = with_note (order_noted m.order t.note) t in
@@ -295,7 +295,7 @@ k8 start id v t is_open nothing m views h at =
     (λ s. view_gain s (start_row start s) (row_at m s) views v w t u (h.rows s) ((h.rows s).each id v at) is_open refl refl refl (omega arith) ((h.rows s).each id v at).to refl (λ r x. absurd (order_has m.order t.note s r (h.graces.formed id v at t is_open) nothing.1 x)))
     (order_load (start_order start) m.order (keeping views) id v w t u (h.orders id v at) h.graces.stored refl refl refl refl)
 
--- K9 of a slot of the section's order
+-- a load of a row of a slot of the section's order
 pub k9 : (start : Start) (id : ℕ) (v : View) (t : Section) (x : ℕ) → v.inside ≡ Some t → Lists t.note x → Reaches x t.note v → (m : Memory) (views : List View) → Holds start m views → get_elem? views id ≡ some v → Holds start m (set views id (view.row_read x (row_at m x) (with_note (row_noted x (row_at m x) t.note) t) v))
 k9 start id v t x is_open lists reach m views h at =
     let r : Row = row_at m x in
@@ -312,7 +312,7 @@ k9 start id v t x is_open lists reach m views h at =
     (row_has x r t.note s row (h.graces.formed id v at t is_open) lists y)))
     (order_same (start_order start) m.order (keeping views) id v w (h.orders id v at) refl (λ Q o. noted_note (λ n. (y : Order) → n.order ≡ Some y → Q y) u v w refl refl (o.0 t is_open) o))
 
--- K9 of a flight's slot
+-- a load of a row of a flight's slot
 pub k9_flight : (start : Start) (id : ℕ) (v : View) (t : Section) (x : ℕ) → v.inside ≡ Some t → ReadsAlone x t.note → 1 ≤ flying x v → (m : Memory) (views : List View) → Holds start m views → get_elem? views id ≡ some v → Holds start m (set views id (view.row_read x (row_at m x) (with_note (flight_noted x (row_at m x) t.note) t) v))
 k9_flight start id v t x is_open alone flies m views h at =
     let r : Row = row_at m x in
@@ -326,7 +326,7 @@ k9_flight start id v t x is_open alone flies m views h at =
     (λ row y. let e = flight_has x r t.note s row y in inl (e.1 ∙ ap (row_at m) e.0, (let z = ap (λ (y : ℕ). (row_at m y).version) e.0 in let g = greatest_at s x r.version v.seen.rows e.0 in omega arith))))
     (order_same (start_order start) m.order (keeping views) id v w (h.orders id v at) refl (λ Q o. noted_note (λ n. (y : Order) → n.order ≡ Some y → Q y) u v w refl refl (o.0 t is_open) o))
 
--- K12, K15 and K16 by a section
+-- a load of a depth, a load of a current word and a store of a current word by a section
 pub k12 : (start : Start) (id : ℕ) (v : View) (t : Section) (x d : ℕ) → v.inside ≡ Some t → (m : Memory) (views : List View) → Holds start m views → get_elem? views id ≡ some v → Holds start m (set views id (noted (with_note (depth_noted x d t.note) t) v))
 k12 start id v t x d is_open m views h at =
     let u : Section = with_note (depth_noted x d t.note) t in
@@ -370,7 +370,7 @@ pass_hold start id v w m n views h at sized entries inside rows order index same
     (subst (λ (i : ℕ). Lanes i (set views id w)) (sym index) (lanes_view m.index views id v w h.lanes at same outs indexes (λ e. record { left = left ∙ e.left; inside = open_same ∙ e.inside; done = done ∙ e.done; flights = flights ∙ e.flights; entries = made ∙ e.entries })))
     made seen none (λ s Q. noted_same (Reads Q s) v w open_same done) (λ Q. noted_same (λ n. (o : Order) → n.order ≡ Some o → Q o) v w open_same done) events rows order
 
--- K16 by `keeper_current`, none
+-- a store of a current word by `keeper_current`, none
 pub k16_keeper : (start : Start) (id : ℕ) (v : View) (i : ℕ) → i < 8 → (m : Memory) (views : List View) → Holds start m views → get_elem? views id ≡ some v → Holds start (current_in i None m) (set views id (view.passed v))
 k16_keeper start id v i low m views h at =
     let n : Memory = current_in i None m in
@@ -381,7 +381,7 @@ k16_keeper start id v i low m views h at =
     at refl refl refl refl refl refl refl)
     (λ k. ap (order_at k (start_order start)) (keeping-same views id v w at refl))
 
--- K17, by a lane and by the keeper
+-- a clear of a current word, by a lane and by the keeper
 pub k17 : (start : Start) (id : ℕ) (v : View) (i x : ℕ) → i < 8 → (m : Memory) (views : List View) → Holds start m views → get_elem? views id ≡ some v → Holds start (cleared_in i x m) (set views id (view.cleared i x v))
 k17 start id v i x low m views h at = by v.role refl
   where
@@ -412,7 +412,7 @@ k17 start id v i x low m views h at = by v.role refl
         (subst (λ (c : Cells). Keeps (first_of start) c (set views id w)) (sym is) (graces.k17_keeper (first_of start) id v x i e (cells_of m) views h.graces at))
         (event_same start id v w (Clears i x) m views h at e refl (λ k es. refl)))
 
--- K12 by `keeper_depth`
+-- a load of a depth by `keeper_depth`
 pub k12_keeper : (start : Start) (id : ℕ) (v : View) (x : ℕ) → v.role ≡ role.Keeper → (m : Memory) (views : List View) → Holds start m views → get_elem? views id ≡ some v → Holds start m (set views id (view.depth_looked x (depth_at m x) v))
 k12_keeper start id v x keeper m views h at = dite (ℕ_discrete d 0) nothing something
   where
@@ -439,7 +439,7 @@ k12_keeper start id v x keeper m views h at = dite (ℕ_discrete d 0) nothing so
         (graces.unchanged (first_of start) (cells_of m) views id v w h.graces at refl refl refl refl refl refl events)
         (λ k. ap (order_at k (start_order start)) (keeping-same views id v w at events))
 
--- K9 by `keeper_row`
+-- a load of a row by `keeper_row`
 pub k9_keeper : (start : Start) (id : ℕ) (v : View) (x : ℕ) → v.role ≡ role.Keeper → (m : Memory) (views : List View) → Holds start m views → get_elem? views id ≡ some v → Holds start m (set views id (view.row_held x (row_at m x) v))
 k9_keeper start id v x keeper m views h at =
     let r : Row = row_at m x in
@@ -455,7 +455,7 @@ k9_keeper start id v x keeper m views h at =
     (order_same (start_order start) m.order (keeping views) id v w (h.orders id v at) refl (λ Q o. o))
     (λ k. ap (order_at k (start_order start)) (keeping-same views id v w at refl)) refl refl
 
--- K10 that found another row, by a section and by the keeper
+-- a row change that found another row, by a section and by the keeper
 pub k10_moved : (start : Start) (id : ℕ) (v : View) (t : Section) (x : ℕ) → v.inside ≡ Some t → (m : Memory) (views : List View) → Holds start m views → get_elem? views id ≡ some v → Holds start m (set views id (view.row_moved x (row_at m x) (record t { tried = true }) v))
 k10_moved start id v t x is_open m views h at =
     let r : Row = row_at m x in
@@ -486,7 +486,7 @@ k10_keep_moved start id v x m views h at =
     (order_same (start_order start) m.order (keeping views) id v w (h.orders id v at) refl (λ Q o. o))
     (λ k. ap (order_at k (start_order start)) (keeping-same views id v w at refl)) refl refl
 
--- K10 that was made
+-- a row change that was made
 seen_is : (x n : ℕ) (v : View) → seen_row v x ≤ n → view.greatest x (record { slot = x; version = n } ∷ v.seen.rows) ≡ n
 seen_is x n v le = ap (λ (b : Bool). cond b (max n (seen_row v x)) (seen_row v x)) (eq-eqb x x refl) ∙ omega arith
 
@@ -527,7 +527,7 @@ used_given st q = refl
 pub reached_given : (start : Start) (id : ℕ) (v : View) (t : Section) (x : ℕ) → v.inside ≡ Some t → Reaches x t.note v → (m : Memory) (views : List View) → Holds start m views → get_elem? views id ≡ some v → is_given (row_at m x) ≡ true
 reached_given start id v t x is_open reach m views h at = let k = h.graces.slots x in k.taken ∙ used_given _ (not_quiet x _ _ _ _ _ views id v t k at is_open reach)
 
--- K10 with Log, Ctrl, Expire or Pending
+-- a row change with Log, Ctrl, Expire or Pending
 pub k10 : (start : Start) (id : ℕ) (v : View) (t : Section) (x : ℕ) (old : Row) (o : Op) (by : Maker) → x < 15 → v.inside ≡ Some t → Reaches x t.note v → IsLaneOp o → Changes old o → t.tried ≡ false → (m : Memory) (views : List View) → Holds start m views → get_elem? views id ≡ some v → row_at m x ≡ old
     → Holds start (row_in x (row_after old o) m) (set views id (view.row_changed (entry_of x old o by) (record t { tried = true }) v))
 k10 start id v t x old o by low is_open reach lane changes first_try m views h at is =
@@ -555,7 +555,7 @@ k10 start id v t x old o by low is_open reach lane changes first_try m views h a
     (λ d. all_more (λ (y : RowEntry). IsLaneOp y.op) v.entries e (h.made id v at d) lane)
     (lane_lawful old o lane changes (ap is_given (sym is) ∙ given) (subst IsRow is (h.lawful x)))
 
--- K10 by the keeper, with its event
+-- a row change by the keeper, with its event
 keep_hold : (start : Start) (id : ℕ) (v : View) (x : ℕ) (old : Row) (o : Op) (by : Maker) (ev : Event) → x < 15 → v.role ≡ role.Keeper → 1 ≤ v.left → view.event_of (entry_of x old o by) ≡ ev ∷ [] → ((start_o : Order) (k : ℕ) (es : List Event) → order_at k start_o (ev ∷ es) ≡ order_at k start_o es) → (m : Memory) (views : List View) → Holds start m views → get_elem? views id ≡ some v → row_at m x ≡ old
     → (row_after old o).version ≡ old.version + 1 → IsRow (row_after old o) → Keeps (first_of start) (row_cells x (row_after old o) (cells_of m)) (set views id (kept ev v)) → Holds start (row_in x (row_after old o) m) (set views id (view.row_kept (entry_of x old o by) v))
 keep_hold start id v x old o by ev low keeper some_left event other m views h at is next lawful kept_graces =
@@ -620,7 +620,7 @@ usable_enabled r h = both (is_enabled r) _ h
     both true b h = refl
     both false b h = h
 
--- K11: each listed slot is one of the fifteen
+-- a store of the list: each listed slot is one of the fifteen
 pub k11 : (start : Start) (id : ℕ) (v : View) (e : OrderEntry) → v.role ≡ role.Keeper → 1 ≤ v.left → IsNext v e.order → ((s : ℕ) → 15 ≤ s → lists s e.order ≡ false) → (m : Memory) (views : List View) → Holds start m views → get_elem? views id ≡ some v → Holds start (order_in e.order m) (set views id (view.order_stored e v))
 k11 start id v e keeper some_left next range m views h at =
     let n : Memory = order_in e.order m in
@@ -659,7 +659,7 @@ k11 start id v e keeper some_left next range m views h at =
         (λ (l : 15 ≤ s). far s _ (range s l) (ap (λ (es : List Event). is_used (status (first_status start s) s es)) (sym (keeping-own views id v (h.graces.keeper id v at keeper) at)) ∙ sym (h.graces.slots s).taken ∙ unpaid s l))
         (cases_lt s 15)
 
--- K13
+-- a send
 pub k13 : (start : Start) (id : ℕ) (v : View) (t : Section) (lane x req : ℕ) → x < 15 → v.inside ≡ Some t → HasUsable t.note x → t.sent ≡ false → (m : Memory) (views : List View) → Holds start m views → get_elem? views id ≡ some v
     → Holds start (sent_in x m) (set views id (view.flown (flight_of lane t x req) (record t { sent = true }) v))
 k13 start id v t lane x req low is_open has unsent_yet m views h at =
@@ -681,7 +681,7 @@ k13 start id v t lane x req low is_open has unsent_yet m views h at =
     (λ Q o. noted_note (λ n. (y : Order) → n.order ≡ Some y → Q y) u v w refl refl (o.0 t is_open) o)
     (λ k. ap (order_at k (start_order start)) (keeping-same views id v w at refl)) refl refl
 
--- K14
+-- an end
 pub k14 : (start : Start) (id : ℕ) (v : View) (f : Flight) → f.slot < 15 → has_flight f v ≡ true → (m : Memory) (views : List View) → Holds start m views → get_elem? views id ≡ some v → Holds start (landed_in f.slot m) (set views id (view.landed f v))
 k14 start id v f low has m views h at =
     let w : View = view.landed f v in

@@ -48,7 +48,7 @@ pub times-snoc : (l : ℕ) (xs : List ℕ) (x : ℕ) → times l (xs ++ x ∷ []
 times-snoc l [] x = omega arith
 times-snoc l (y ∷ xs) x = let r = times-snoc l xs x in omega arith
 
--- K6: a lane that isn't out goes out
+-- a split: a lane that isn't out goes out
 pub lanes_split : (index : ℕ) (views : List View) (id : ℕ) (v left right : View) (lane : ℕ) → Lanes index views → get_elem? views id ≡ some v → id ≡ 0 → times lane v.keeping.out ≡ 0 → left.role ≡ v.role → left.keeping.out ≡ v.keeping.out ++ lane ∷ [] → left.keeping.index ≡ v.keeping.index → (v.role ≡ role.Spent → ⊥) → right.role ≡ role.Lane lane → Lanes index (set views id left ++ right ∷ [])
 lanes_split index views id v left right lane k at mine fresh same outs indexes whole lane_is =
     let l : List View = set views id left in
@@ -87,7 +87,7 @@ lanes_split index views id v left right lane k at mine fresh same outs indexes w
     not_spent : role.Lane lane ≡ role.Spent → ⊥
     not_spent e = subst is_one e tt
 
--- K7: the other's lane is in again
+-- a join: the other's lane is in again
 without_other : (lane x : ℕ) (xs : List ℕ) → lane ≢ x → times x (filter (λ l. not (l == lane)) xs) ≡ times x xs
 without_other lane x [] d = refl
 without_other lane x (y ∷ ys) d = let r = without_other lane x ys d in

@@ -51,7 +51,7 @@ only start id c m views f h at untold alone none =
     let spent = all_spent m.index views h.lanes h.graces.keeper (out-own views id c.view mine at ∙ a.1) in
     total-alone f views c.view here (λ i u e d. let k = h.lanes.spent i u e (spent i u e d) in none u k.inside k.flights k.entries)
 
--- K8
+-- a load of the list
 pub order_told : (start : Start) (id : ℕ) (c : Core) (m : Memory) (views : List View) → Holds start m views → get_elem? views id ≡ some c.view → IsUntold c → OrderTold c m.order
 order_told start id c m views h at untold = let k = h.orders id c.view at in record {
   lawful = h.order;
@@ -90,7 +90,7 @@ seen_last start id c x m views h at untold alone = ⊎_elim newer older (cases_l
         let all = only start id c m views (makers x (row_at m x).version) h at untold alone (λ u a b e. ap (counts x (row_at m x).version) e) in
         let none = counts_low x (row_at m x).version c.view.entries (λ i d k z. let y = v.own i d k z in omega arith) in absurd (omega arith)
 
--- K9
+-- a load of a row
 pub row_told : (start : Start) (id : ℕ) (c : Core) (x : ℕ) (m : Memory) (views : List View) → Holds start m views → get_elem? views id ≡ some c.view → IsUntold c → RowTold c x (row_at m x)
 row_told start id c x m views h at untold = record {
   lawful = h.lawful x;
@@ -107,15 +107,15 @@ row_told start id c x m views h at untold = record {
     none_memory : (n : Memory) → None ≡ Some n → ⊥
     none_memory n e = subst some_memory (sym e) tt
 
--- K9 of a slot that a section reaches: it isn't free
+-- a load of a row of a slot that a section reaches: it isn't free
 pub row_given : (start : Start) (id : ℕ) (v : View) (t : Section) (x : ℕ) → v.inside ≡ Some t → Reaches x t.note v → (m : Memory) (views : List View) → Holds start m views → get_elem? views id ≡ some v → is_given (row_at m x) ≡ true
 row_given start id v t x is_open reach m views h at = reached_given start id v t x is_open reach m views h at
 
--- K9 by the keeper: it is free exactly where the sequence says so
+-- a load of a row by the keeper: it is free exactly where the sequence says so
 pub row_used : (start : Start) (id : ℕ) (v : View) (x : ℕ) → v.role ≡ role.Keeper → (m : Memory) (views : List View) → Holds start m views → get_elem? views id ≡ some v → is_given (row_at m x) ≡ is_used (status_at x v)
 row_used start id v x keeper m views h at = (h.graces.slots x).taken ∙ ap is_used (own_status (first_of start) _ views id v x (status_at x v) h.graces at keeper (own_is start id v x (status_at x v) m views h at refl))
 
--- K10 that found another row than the one read: its version is greater
+-- a row change that found another row than the one read: its version is greater
 later : (start : Start) (id : ℕ) (c : Core) (x : ℕ) (old : Row) (m : Memory) (views : List View) → Holds start m views → get_elem? views id ≡ some c.view → IsUntold c → ReadAt x (start_row start x) (row_at m x) (seen_row c.view x) views old → row_at m x ≢ old → is_given (row_at m x) ≡ true → RowMoved c x old (row_at m x)
 later start id c x old m views h at untold read apart given =
     let v = (h.rows x).each id c.view at in
@@ -145,12 +145,12 @@ pub row_moved : (start : Start) (id : ℕ) (c : Core) (t : Section) (x : ℕ) (o
 row_moved start id c t x old is_open has reach m views h at untold apart =
     later start id c x old m views h at untold (((h.rows x).each id c.view at).reads.0 t is_open old has) apart (reached_given start id c.view t x is_open reach m views h at)
 
--- K10 with Mark
+-- a row change with Mark
 pub mark_moved : (start : Start) (id : ℕ) (c : Core) (x : ℕ) (old : Row) → c.view.role ≡ role.Keeper → c.view.keeping.last ≡ Some (record { slot = x; row = old }) → status_at x c.view ≡ listed → (m : Memory) (views : List View) → Holds start m views → get_elem? views id ≡ some c.view → IsUntold c → row_at m x ≢ old → RowMoved c x old (row_at m x)
 mark_moved start id c x old keeper last own m views h at untold apart =
     later start id c x old m views h at untold (((h.rows x).each id c.view at).held (record { slot = x; row = old }) last refl) apart (row_used start id c.view x keeper m views h at ∙ ap is_used own)
 
--- K10 with Give and with Free is never moved
+-- a row change with Give and with Free is never moved
 pub never_moved : (start : Start) (id : ℕ) (v : View) (x : ℕ) (old : Row) → v.role ≡ role.Keeper → v.keeping.last ≡ Some (record { slot = x; row = old }) → is_quiet (status_at x v) ≡ true → (m : Memory) (views : List View) → Holds start m views → get_elem? views id ≡ some v → row_at m x ≡ old
 never_moved start id v x old keeper last quiet m views h at =
     sym ((h.graces.slots x).still id v at (record { slot = x; row = old }) last refl
@@ -170,7 +170,7 @@ keep_done start id v x old (op.Ctrl a) never may keeper last m views h at = absu
 keep_done start id v x old op.Expire never may keeper last m views h at = absurd never
 keep_done start id v x old op.Pending never may keeper last m views h at = absurd never
 
--- K12: a depth is at least the view's own flights
+-- a load of a depth: a depth is at least the view's own flights
 pub depth_own : (start : Start) (id : ℕ) (v : View) (x : ℕ) (m : Memory) (views : List View) → Holds start m views → get_elem? views id ≡ some v → flying x v ≤ depth_at m x
 depth_own start id v x m views h at = let c = (h.graces.slots x).counted in let l = le-total (flying x) views id v at in omega arith
 
@@ -178,7 +178,7 @@ depth_own start id v x m views h at = let c = (h.graces.slots x).counted in let 
 pub depth_alone : (start : Start) (id : ℕ) (c : Core) (x : ℕ) (m : Memory) (views : List View) → Holds start m views → get_elem? views id ≡ some c.view → IsUntold c → c.alone ≡ true → depth_at m x ≡ flying x c.view
 depth_alone start id c x m views h at untold alone = (h.graces.slots x).counted ∙ only start id c m views (flying x) h at untold alone (λ u a b e. ap (on_slot x) b)
 
--- K4: where no lane is out and the pass has no open section, nobody is inside
+-- a scan: where no lane is out and the pass has no open section, nobody is inside
 pub scan_alone : (start : Start) (id : ℕ) (c : Core) (side : ℕ) (m : Memory) (views : List View) → Holds start m views → get_elem? views id ≡ some c.view → IsUntold c → c.alone ≡ true → c.view.inside ≡ None → (side_at m side).inside ≡ 0
 scan_alone start id c side m views h at untold alone closed = (h.graces.sides side).counted ∙ only start id c m views (sits side) h at untold alone (λ u a b e. ap (on_side side) a) ∙ ap (on_side side) closed
 

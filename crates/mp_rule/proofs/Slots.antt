@@ -68,7 +68,7 @@ not_quiet s st row order depth currents views id v t k at is_open reach q = ⊎_
     (λ (f : 1 ≤ flying s v). let z = k.idle q in let is = k.counted in let le = le-total (flying s) views id v at in absurd (omega arith))
     reach
 
--- K8
+-- a load of the list
 pub hides_order : (s : ℕ) (st : Status) (row : Row) (order : Order) (depth : ℕ) (currents : ℕ → Option ℕ) (views : List View) (n : Note) → SlotAt s st row order depth currents views → Hides s st (order_noted order n)
 hides_order s st row order depth currents views n k h = k.listed ∙ hidden-unlisted n.side st h
 
@@ -82,7 +82,7 @@ enabled_off r e = ap (λ (b : Bool). is_given r && takes_requests r.cstate && no
     none true false c = refl
     none false b c = refl
 
--- K9 of slot s: a row under removal isn't enabled
+-- a load of a row of slot s: a row under removal isn't enabled
 pub bars_row : (s : ℕ) (st : Status) (row order : _) (depth : ℕ) (currents : ℕ → Option ℕ) (views : List View) (id : ℕ) (v : View) (t : Section) (m : Note) → SlotAt s st row order depth currents views → get_elem? views id ≡ some v → v.inside ≡ Some t
     → m.side ≡ t.note.side → ((r : Row) → HasRow m s r → ((r ≡ row) × Reaches s t.note v) ⊎ HasRow t.note s r) → Bars s st m
 bars_row s st row order depth currents views id v t m k at is_open side has h r x =
@@ -108,7 +108,7 @@ row_listed s st row order depth currents views id v t r k at is_open x on = k.li
     by (gone a b) h = absurd (h refl)
     by bare h = absurd (h refl)
 
--- K13: one flight more, on slot x
+-- a send: one flight more, on slot x
 pub slot_send : (s : ℕ) (st : Status) (row : Row) (order : Order) (depth : ℕ) (currents : ℕ → Option ℕ) (views : List View) (id : ℕ) (v w : View) → SlotAt s st row order depth currents views → get_elem? views id ≡ some v → flying s w ≡ flying s v + 1 → (is_quiet st ≡ true → ⊥) → Opened (Bars s st) w → Opened (Hides s st) w → Still s st row id w
     → SlotAt s st row order (depth + 1) currents (set views id w)
 slot_send s st row order depth currents views id v w k at more busy bars hides still =
@@ -127,7 +127,7 @@ slot_send s st row order depth currents views id v w k at more busy bars hides s
       still = each_set (Still s st row) views id w (λ j u d a. k.still j u a) still;
     }
 
--- K14: one flight less
+-- an end: one flight less
 pub slot_land : (s : ℕ) (st : Status) (row : Row) (order : Order) (depth : ℕ) (currents : ℕ → Option ℕ) (views : List View) (id : ℕ) (v w : View) → SlotAt s st row order depth currents views → get_elem? views id ≡ some v → flying s v ≡ flying s w + 1 → Opened (Bars s st) w → Opened (Hides s st) w → Still s st row id w
     → SlotAt s st row order (depth - 1) currents (set views id w)
 slot_land s st row order depth currents views id v w k at less bars hides still =
@@ -146,7 +146,7 @@ slot_land s st row order depth currents views id v w k at less bars hides still 
       still = each_set (Still s st row) views id w (λ j u d a. k.still j u a) still;
     }
 
--- K16 and K17: the current words become others
+-- a store of a current word and a clear of a current word: the current words become others
 pub slot_currents : (s : ℕ) (st : Status) (row : Row) (order : Order) (depth : ℕ) (currents news : ℕ → Option ℕ) (views : List View) → SlotAt s st row order depth currents views → Unnamed s st news → SlotAt s st row order depth news views
 slot_currents s st row order depth currents news views k h = record {
   taken = k.taken;
@@ -179,7 +179,7 @@ none_slot s e = subst some_slot (sym e) tt
 abbrev pub put : {A : Type 0} → (ℕ → A) → ℕ → A → ℕ → A
 put f i a j = cond (i == j) a (f j)
 
--- K16 of slot x at node i
+-- a store of a current word of slot x at node i
 pub store_named : (s x i : ℕ) (st : Status) (currents : ℕ → Option ℕ) → Unnamed s st currents → (x ≡ s → is_unnamed i st ≡ true → ⊥) → Unnamed s st (put currents i (Some x))
 store_named s x i st currents old here n low h e =
     by_case (λ b. cond b (Some x) (currents n) ≡ Some s → ⊥) i n
@@ -195,7 +195,7 @@ clear_named s i c st currents old is n low h e =
     (λ _ f. old n low h f)
     e
 
--- K4 that found nobody
+-- a scan that found nobody
 pub slot_scan : (s x : ℕ) (st : Status) (row : Row) (order : Order) (depth : ℕ) (currents : ℕ → Option ℕ) (views : List View) → x < 2 → SlotAt s st row order depth currents views
     → ((j : ℕ) (u : View) → get_elem? views j ≡ some u → (n : Section) → u.inside ≡ Some n → (n.note.side < 2) × (n.note.side ≢ x)) → SlotAt s (scanned x st) row order depth currents views
 slot_scan s x st row order depth currents views low k nobody = let f = scan_flags x st in record {
@@ -211,7 +211,7 @@ slot_scan s x st row order depth currents views low k nobody = let f = scan_flag
   still = λ j u a l e s q. k.still j u a l e s (sym f.3 ∙ q);
 }
 
--- K10 by a lane: a slot that isn't quiet stays given, marked or not, and ready or not
+-- a row change by a lane: a slot that isn't quiet stays given, marked or not, and ready or not
 pub slot_log : (s : ℕ) (st : Status) (row new : Row) (order : Order) (depth : ℕ) (currents : ℕ → Option ℕ) (views : List View) → (is_quiet st ≡ true → ⊥) → is_given new ≡ is_given row → new.marked ≡ row.marked → new.ready ≡ row.ready → SlotAt s st row order depth currents views → SlotAt s st new order depth currents views
 slot_log s st row new order depth currents views busy taken marked ready k = record {
   taken = taken ∙ k.taken;
@@ -226,7 +226,7 @@ slot_log s st row new order depth currents views busy taken marked ready k = rec
   still = λ j u a l e s q. absurd (busy q);
 }
 
--- K10 with a mark
+-- a row change with a mark
 pub slot_mark : (s : ℕ) (st : Status) (row new : Row) (order : Order) (depth : ℕ) (currents : ℕ → Option ℕ) (views : List View) → st ≡ listed → is_given new ≡ is_given row → new.marked ≡ true → new.ready ≡ false → SlotAt s st row order depth currents views → SlotAt s (leaving false false) new order depth currents views
 slot_mark s st row new order depth currents views is taken marked ready k =
     let l : SlotAt s listed row order depth currents views = subst (λ (y : Status). SlotAt s y row order depth currents views) is k in record {
@@ -246,7 +246,7 @@ slot_mark s st row new order depth currents views is taken marked ready k =
     picked zero = refl
     picked (suc x) = refl
 
--- K10 with a give
+-- a row change with a give
 pub slot_give : (s : ℕ) (st : Status) (row new : Row) (order : Order) (depth : ℕ) (currents : ℕ → Option ℕ) (views : List View) → st ≡ unused → NoLast views → is_given new ≡ true → new.marked ≡ false → SlotAt s st row order depth currents views → SlotAt s fresh new order depth currents views
 slot_give s st row new order depth currents views is none taken marked k =
     let l : SlotAt s unused row order depth currents views = subst (λ (y : Status). SlotAt s y row order depth currents views) is k in record {
@@ -262,7 +262,7 @@ slot_give s st row new order depth currents views is none taken marked k =
       still = λ j u a l e. absurd (none j u a l e);
     }
 
--- K10 with a free
+-- a row change with a free
 pub slot_free : (s : ℕ) (st : Status) (row new : Row) (order : Order) (depth : ℕ) (currents : ℕ → Option ℕ) (views : List View) → st ≡ bare → NoLast views → is_given new ≡ false → new.marked ≡ false → SlotAt s st row order depth currents views → SlotAt s unused new order depth currents views
 slot_free s st row new order depth currents views is none taken marked k =
     let l : SlotAt s bare row order depth currents views = subst (λ (y : Status). SlotAt s y row order depth currents views) is k in record {
@@ -278,7 +278,7 @@ slot_free s st row new order depth currents views is none taken marked k =
       still = λ j u a l e. absurd (none j u a l e);
     }
 
--- K11
+-- a store of the list
 pub slot_order : (s : ℕ) (st : Status) (row : Row) (order new : Order) (depth : ℕ) (currents : ℕ → Option ℕ) (views : List View) → MayOrder (lists s new) st → SlotAt s st row order depth currents views → SlotAt s (ordered (lists s new) st) row new depth currents views
 slot_order s st row order new depth currents views may k =
     let l : Bool = lists s new in
@@ -295,7 +295,7 @@ slot_order s st row order new depth currents views may k =
       still = λ j u a p e s q. k.still j u a p e s (order_quiet l st q);
     }
 
--- K12 by the keeper that read 0
+-- a load of a depth by the keeper that read 0
 pub slot_empty : (s : ℕ) (st : Status) (row : Row) (order : Order) (depth : ℕ) (currents : ℕ → Option ℕ) (views : List View) → depth ≡ 0 → NoLast views → SlotAt s st row order depth currents views → SlotAt s (emptied st) row order depth currents views
 slot_empty s st row order depth currents views none lasts k = let f = empty_flags st in record {
   taken = k.taken ∙ sym f.0;
@@ -310,7 +310,7 @@ slot_empty s st row order depth currents views none lasts k = let f = empty_flag
   still = λ j u a l e. absurd (lasts j u a l e);
 }
 
--- K17 by the keeper, at node i
+-- a clear of a current word by the keeper, at node i
 pub slot_clear : (s i : ℕ) (st : Status) (row : Row) (order : Order) (depth : ℕ) (currents news : ℕ → Option ℕ) (views : List View) → (news i ≡ Some s → ⊥) → SlotAt s st row order depth news views → SlotAt s (cleared i st) row order depth news views
 slot_clear s i st row order depth currents news views apart k = let f = clear_flags i st in record {
   taken = k.taken ∙ sym f.0;

@@ -29,7 +29,7 @@ told_is a m P told p n e = subst P (ap (or_memory m) (sym told ∙ e)) p
 pub not_alone : (a : Core) (m : Memory) → a.told ≡ Some m → IsAlone a → ⊥
 not_alone a m told al = subst none_told (sym al.0 ∙ told) tt
 
--- K8
+-- a load of the list
 pub told_order : (start : Start) (a : Core) (m : Memory) (views : List View) → Holds start m views → a.told ≡ Some m → a.view.seen.order ≤ m.order.version → OrderTold a m.order
 told_order start a m views h told fresh = record {
   lawful = h.order;
@@ -39,7 +39,7 @@ told_order start a m views h told fresh = record {
   told = told_is a m (λ n. m.order ≡ n.order) told refl;
 }
 
--- K9
+-- a load of a row
 pub told_row : (start : Start) (a : Core) (x : ℕ) (m : Memory) (views : List View) → Holds start m views → a.told ≡ Some m → seen_row a.view x ≤ (row_at m x).version → RowTold a x (row_at m x)
 told_row start a x m views h told fresh = record {
   lawful = h.lawful x;
@@ -56,7 +56,7 @@ older start x most old m views le read apart = let to = read.to in below old.ver
     below : (a b : ℕ) → a ≤ b → a ≢ b → a < b
     below a b l d = omega arith
 
--- K10 that found another row
+-- a row change that found another row
 pub told_moved : (start : Start) (a : Core) (x : ℕ) (old : Row) (m : Memory) (views : List View) → Holds start m views → a.told ≡ Some m → old.version < (row_at m x).version → is_given (row_at m x) ≡ true → RowMoved a x old (row_at m x)
 told_moved start a x old m views h told less given = record {
   greater = less;
