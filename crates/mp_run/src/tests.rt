@@ -97,7 +97,7 @@ fn refused(why: &RunError) -> (&'static str, usize) {
 }
 
 /// A script, how many units each lane and the drain have, and how it ends.
-const FEW: [(&str, u16, (&str, usize)); 12] = [
+const FEW: [(&str, u16, (&str, usize)); 18] = [
     // The end of a lane with a flight needs a unit, and uses none.
     ("lane\nsubmit 0 0\nsubmit 1 0\n", 3, ("run", 2)),
     ("lane\nsubmit 0 0\nsubmit 1 0\n", 2, ("spent", 0)),
@@ -112,6 +112,14 @@ const FEW: [(&str, u16, (&str, usize)); 12] = [
     ("lane\nctrl a live\nctrl b live\n", 1, ("spent", 0)),
     ("keeper\npolicy numa\npolicy numa\n", 1, ("spent", 0)),
     ("lane\n", 0, ("run", 0)),
+    // An add needs two units, and a refused one uses none. A reap needs sixteen.
+    ("keeper\nadd a -\nadd b -\n", 1, ("spent", 0)),
+    ("keeper\nadd a -\nadd b -\n", 2, ("run", 0)),
+    ("keeper\nreap\n", 15, ("spent", 0)),
+    // The begin of a removal uses one, and the drain reaps with units of its own.
+    ("keeper\nremove a\n", 0, ("spent", 0)),
+    ("keeper\nremove a\nremove b\n", 1, ("spent", 0)),
+    ("keeper\nremove a\n", 1, ("spent", 16)),
     // A finish that fails over uses one.
     (
         "answer 0 1 0300\nlane\nsubmit 0 0\nfinish all\nctrl a live\n",
