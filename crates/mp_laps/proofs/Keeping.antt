@@ -139,7 +139,7 @@ two_apart (suc zero) zero ctrl a b = absurd (subst is_first (b ∙ sym a) tt)
 two_apart (suc (suc i)) j ctrl a b = absurd (nobodys i ctrl a)
 two_apart i (suc (suc j)) ctrl a b = absurd (nobodys j ctrl b)
 
-began : (units : ℕ) → BeganWith two_paths owners (begun units)
+pub began : (units : ℕ) → BeganWith two_paths owners (begun units)
 began units = record {
   order_is = refl;
   lawful = two_paths_lawful.order;

@@ -66,6 +66,10 @@ is_sent near a b before after f made s =
     ap (λ (ts : List Try). outcome_of (last_or None (map tried_of ts))) s.tries ∙ ap outcome_of (last_map before.tries made None)
     ∙ ap (λ (t : Try). outcome_of (Some (tried_of t))) s.tried ∙ ap (λ e. outcome_of (Some (tried_of (open_try (length before.tries + 1) e made.note)))) ended
 
+-- its flight is one more
+pub flew_more : (near : Near) (a b : Core) (before after : RequestView) (f : Flight) (made : Try) → Submits near a b before after (submitted.Sent f) made → b.view.flights ≡ a.view.flights ++ f ∷ []
+flew_more near a b before after f made s = ap (λ (c : Core). c.view.flights) s.view ∙ ap (λ (fs : List Flight). a.view.flights ++ fs) (sent_end a.lane before.id made.end f s.answer_is).1
+
 -- its flight is on its way
 pub flies : (near : Near) (a b : Core) (before after : RequestView) (f : Flight) (made : Try) → Submits near a b before after (submitted.Sent f) made → has_flight f b.view ≡ true
 flies near a b before after f made s =

@@ -36,7 +36,7 @@ use std::alloc::Global;
 use std::test::Fail;
 
 /// The list of two paths under NUMA.
-fn two_listed() -> Order
+pub(crate) fn two_listed() -> Order
     ensures { result ≡ listed.two_paths }
 {
     let mut slots = [Slot::make(0).unwrap(); 8];
@@ -50,7 +50,7 @@ fn two_listed() -> Order
 }
 
 /// The controllers of two paths.
-fn two_owners() -> [Option<Ctrl>; 15]
+pub(crate) fn two_owners() -> [Option<Ctrl>; 15]
     ensures { result ≡ Some 0 ∷ Some 1 ∷ replicate 13 None }
 {
     let mut owners = [None; 15];
@@ -79,7 +79,7 @@ fn has_room(keeper: &mut Keeper, plain: &Plain) -> bool
 }
 
 /// A line of lane 0.
-fn at(line: u32) -> Maker {
+pub(crate) fn at(line: u32) -> Maker {
     Maker::Line {
         lane: LaneId::make(0).unwrap(),
         line,
@@ -199,7 +199,7 @@ fn is_done(
 }
 
 /// Whether the maker is this line of lane 0.
-fn is_at(by: &Maker, line: u32) -> bool {
+pub(crate) fn is_at(by: &Maker, line: u32) -> bool {
     match by {
         Maker::Line { lane, line: made } => lane.get() == 0 && *made == line,
         _ => false,
@@ -207,7 +207,7 @@ fn is_at(by: &Maker, line: u32) -> bool {
 }
 
 /// Whether the list of paths has this version, and these slots alone under round robin or else NUMA.
-fn is_list(order: &Order, version: u32, round: bool, slots: &[u32]) -> bool {
+pub(crate) fn is_list(order: &Order, version: u32, round: bool, slots: &[u32]) -> bool {
     let policy = match order.policy {
         Policy::Numa => !round,
         Policy::RoundRobin => round,
@@ -226,7 +226,7 @@ fn is_list(order: &Order, version: u32, round: bool, slots: &[u32]) -> bool {
 }
 
 /// Whether the list that was stored by a line is this one under round robin.
-fn is_round(entry: &OrderEntry, line: u32, version: u32, slots: &[u32]) -> bool {
+pub(crate) fn is_round(entry: &OrderEntry, line: u32, version: u32, slots: &[u32]) -> bool {
     is_at(&entry.by, line) && is_list(&entry.order, version, true, slots)
 }
 
@@ -239,7 +239,7 @@ fn went_round(entry: &Option<OrderEntry>, line: u32, version: u32, slots: &[u32]
 }
 
 /// Whether a path was added in this slot, with this version of its row and this list of paths.
-fn was_added(
+pub(crate) fn was_added(
     end: &Option<Result<Added, AddError>>,
     line: u32,
     slot: u32,
@@ -267,7 +267,12 @@ fn is_already(end: &Option<Result<Added, AddError>>, slot: u32) -> bool {
 }
 
 /// Whether this slot was marked, with this version of its row.
-fn was_marked(end: &Option<Result<RowEntry, RemoveError>>, line: u32, slot: u32, row: u32) -> bool {
+pub(crate) fn was_marked(
+    end: &Option<Result<RowEntry, RemoveError>>,
+    line: u32,
+    slot: u32,
+    row: u32,
+) -> bool {
     match end {
         Some(Ok(entry)) => {
             entry.slot.get() == slot
@@ -289,7 +294,7 @@ fn had_no_path(end: &Option<Result<RowEntry, RemoveError>>, version: u32, slots:
 }
 
 /// Whether this slot was freed, with this version of its row and so many flips so far.
-fn was_freed(end: &Option<Reaped>, line: u32, slot: u32, row: u32, flips: u32) -> bool {
+pub(crate) fn was_freed(end: &Option<Reaped>, line: u32, slot: u32, row: u32, flips: u32) -> bool {
     match end {
         Some(Reaped::Freed(entry, turned)) => {
             entry.slot.get() == slot
@@ -303,7 +308,7 @@ fn was_freed(end: &Option<Reaped>, line: u32, slot: u32, row: u32, flips: u32) -
 }
 
 /// Whether no slot was freed, since so many flights are on this slot.
-fn flew(end: &Option<Reaped>, slot: u32, depth: u32) -> bool {
+pub(crate) fn flew(end: &Option<Reaped>, slot: u32, depth: u32) -> bool {
     match end {
         Some(Reaped::Again(stopped, Stop::Depth(flights))) => {
             stopped.get() == slot && *flights == depth
@@ -313,7 +318,7 @@ fn flew(end: &Option<Reaped>, slot: u32, depth: u32) -> bool {
 }
 
 /// Whether the entry at a place is a list of paths that a line stored, under round robin or else NUMA.
-fn lists_at(
+pub(crate) fn lists_at(
     entries: &[KeepEntry],
     place: usize,
     line: u32,
@@ -331,7 +336,7 @@ fn lists_at(
 
 /// Whether the entry at a place is a look of slot 0's removal, marked by version 1, in its first grace period or else its
 /// second: the side with its entries, and the version of the list of paths then.
-fn closes_at(
+pub(crate) fn closes_at(
     entries: &[KeepEntry],
     place: usize,
     line: u32,

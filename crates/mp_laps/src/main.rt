@@ -16,6 +16,8 @@ mod bench;
 mod keeper_tests;
 mod lap;
 #[cfg(test)]
+mod table_tests;
+#[cfg(test)]
 mod tests;
 
 /// The most laps.
