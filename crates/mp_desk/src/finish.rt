@@ -1,0 +1,160 @@
+//! The finish of flights at a desk.
+
+ghost use Rattle.std.specs.Prelude.{◌≡◌, ◌≤◌, ◌++◌, ℕ, None, Some, map};
+ghost use Rattle.std.specs.List.{last_or};
+ghost use Rattle.mp_words.specs.declared.near.Near.{Near};
+ghost use Rattle.mp_words.specs.declared.trying.Try.{Try};
+ghost use Rattle.mp_desk.specs.Calls.{finish, Sits};
+ghost use Rattle.mp_desk.specs.DeskView.{entering, landing, noting};
+ghost use Rattle.mp_desk.specs.Desks.{desk_of, DoesCalls, DoesFlight, HasRoom, IsTaken, Leaves};
+ghost use Rattle.mp_desk.specs.Indexed.{flying_of};
+ghost use Rattle.mp_desk.specs.Says.{back_in, end_event, entries_back, noted_before};
+
+use crate::aloft::Aloft;
+use crate::desk::Desk;
+use crate::flying::Flying;
+use crate::halt::Halt;
+use crate::last::last_of;
+use mp_core::gate::Gate;
+use mp_core::steps::Steps;
+use mp_record::event::Event;
+use mp_record::notes::LaneNotes;
+use mp_submit::finish::{Finished, finish};
+use mp_words::answers::Answers;
+use mp_words::note::Note;
+use mp_words::numbered::Numbered;
+use mp_words::numbers::ReqId;
+use mp_words::request::Request;
+use mp_words::trying::Back;
+
+impl Desk {
+    /// Ends the flights of a number, where one is named, or all, in the order sent, by the scripted statuses of their
+    /// hops, and notes it: each request has ended, or is to be listed. Each needs a unit. The pass sits at this desk.
+    ///
+    /// # Errors
+    ///
+    /// `Spent` where no unit is left to one, which is ended. `NoMemory` where memory runs out.
+    pub fn finish<S: Steps, G: Gate>(
+        &mut self,
+        steps: &mut S,
+        gate: &G,
+        answers: &Answers,
+        named: &Option<ReqId>,
+    ) -> Result<(), Halt>
+        requires sits { Sits (S.core steps.old) (desk_of self.old) }
+        ensures does { (near : Near) (line : ℕ) → DoesCalls result (record { near = near; answers = answers.now; line = line }) (map finish (flying_of named.now self.old.flights.flying)) (S.core steps.old) (S.core steps.new) (desk_of self.old) (desk_of self.new) }
+        ensures leaves { Leaves (S.core steps.old) (S.core steps.new) (desk_of self.new) }
+    {
+        for _ in 0..self.flights.count(named) {
+            match self.flights.take(named) {
+                None => (),
+                Some(flying) => match self.finish_one(steps, gate, answers, flying) {
+                    Ok(()) => (),
+                    Err(halt) => return Err(halt),
+                },
+            }
+        }
+        Ok(())
+    }
+
+    /// Ends a flight that was taken from the desk.
+    fn finish_one<S: Steps, G: Gate>(
+        &mut self,
+        steps: &mut S,
+        gate: &G,
+        answers: &Answers,
+        flying: Flying,
+    ) -> Result<(), Halt>
+        requires taken { IsTaken flying (S.core steps.old) (desk_of self.old) }
+        ensures does { (near : Near) (line : ℕ) → DoesFlight result (record { near = near; answers = answers.now; line = line }) flying (S.core steps.old) (S.core steps.new) (desk_of self.old) (desk_of self.new) }
+        ensures leaves { Leaves (S.core steps.old) (S.core steps.new) (desk_of self.new) }
+    {
+        let Flying {
+            flight,
+            mut request,
+        } = flying;
+        for _ in 0..steps.left() {
+            if self.reserve().is_err() {
+                steps.end(flight.flight());
+                return Err(Halt::NoMemory);
+            }
+            match finish(steps, gate, flight.flight(), &mut request, answers) {
+                Finished::Done(_) => {
+                    self.land(request, None);
+                    return Ok(());
+                }
+                Finished::Back(note) => {
+                    self.land(request, Some(note));
+                    return Ok(());
+                }
+                Finished::Moved(again, row, note) => {
+                    let moved = Some((Aloft::of(again).slot, row.version));
+                    self.notes.push(Event::Sec { note, moved });
+                }
+            }
+        }
+        steps.end(flight.flight());
+        Err(Halt::Spent)
+    }
+
+    /// Notes how the last try of a request ended, and puts the request where it belongs.
+    fn land(&mut self, request: Request, entered: Option<Note>)
+        requires room { HasRoom self.old }
+        requires tried { (made : Try) × (last_or None request.tries ≡ Some made) }
+        ensures { desk_of self.new ≡ landing request (back_in (last_or None request.tries)) (entering (entries_back (back_in (last_or None request.tries))) (noting (noted_before entered ++ end_event request (last_or None request.tries)) (desk_of self.old))) }
+    {
+        note_section(&mut self.notes, &entered);
+        let back = note_end(&mut self.notes, &request);
+        self.take_back(request, &back);
+    }
+
+    /// Puts a request where it belongs once its flight has ended, and it came back so or didn't.
+    fn take_back(&mut self, request: Request, back: &Option<Back>)
+        requires out { 1 ≤ self.old.out.spare }
+        requires ended { 1 ≤ self.old.ended.spare }
+        requires rows { 1 ≤ self.old.rows.spare }
+        ensures { desk_of self.new ≡ landing request back.now (entering (entries_back back.now) (desk_of self.old)) }
+    {
+        match back {
+            None => self.ended.push(request),
+            Some(Back::Unset) => self.out.push(request),
+            Some(Back::Set(entry)) => {
+                self.rows.push(*entry);
+                self.out.push(request);
+            }
+        }
+    }
+}
+
+/// Notes the section that a finish entered, where it did.
+fn note_section(notes: &mut LaneNotes, entered: &Option<Note>)
+    requires room { 2 ≤ notes.old.spare }
+    ensures events { notes.new.events ≡ notes.old.events ++ noted_before entered.now }
+    ensures room { 1 ≤ notes.new.spare }
+{
+    if let Some(note) = entered {
+        notes.push(Event::Sec {
+            note: *note,
+            moved: None,
+        });
+    }
+}
+
+/// Notes how the last try of a request ended, and answers how the request came back, where it did.
+fn note_end(notes: &mut LaneNotes, request: &Request) -> Option<Back>
+    requires room { 1 ≤ notes.old.spare }
+    requires tried { (made : Try) × (last_or None request.now.tries ≡ Some made) }
+    ensures events { notes.new.events ≡ notes.old.events ++ end_event request.now (last_or None request.now.tries) }
+    ensures back { result ≡ back_in (last_or None request.now.tries) }
+{
+    let last = last_of(request);
+    let statuses = last.statuses;
+    notes.push(Event::Fin {
+        req: request.id(),
+        hop: request.next() - 1,
+        statuses,
+        count: last.count,
+        back: last.back,
+    });
+    last.back
+}
