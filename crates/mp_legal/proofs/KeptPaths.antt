@@ -101,7 +101,7 @@ cond_none : (b : Bool) (i : ℕ) → cond b (Some i) None ≡ None → b ≡ fal
 cond_none false i h = refl
 cond_none true i h = absurd cc
 
-none_at : {X : Type 0} (p : X → Bool) (xs : List X) (i : ℕ) (d : X) → i < length xs → position p xs ≡ None → p (get_or xs i d) ≡ false
+pub none_at : {X : Type 0} (p : X → Bool) (xs : List X) (i : ℕ) (d : X) → i < length xs → position p xs ≡ None → p (get_or xs i d) ≡ false
 none_at p xs i d lt none =
     let past = cond_none (nat_lt (position_or_len p xs) (length xs)) (position_or_len p xs) none in
     fails_before_first p xs i d (grind (arith, nat_tests, lt, past))

@@ -16,10 +16,15 @@ pub mod Drain
 pub mod PlainRun
 pub mod Units
 pub mod Numbers
+pub mod RunCalls
+pub mod Fitting
+pub mod Enough
+pub mod Unnamed
 pub mod Inputs
 pub mod ToldState
 pub mod ToldCalls
 pub mod ToldKeeper
+pub mod ToldDesks
 pub mod CaseAllFifteenSlots
 pub mod CaseChangeArmsAndTimerExpires
 pub mod CaseDeadControllersFailARequest

@@ -1,5 +1,5 @@
 -- What the calls that are made of steps do to a run, where the words are told.
-use Rattle.std.specs.Prelude.{◌≡◌, ℕ, ◌-◌, not, ◌==◌, List, [], ◌∷◌, ◌++◌, filter, length, Option, None, Some, slice_index_or, slice_set}
+use Rattle.std.specs.Prelude.{◌≡◌, ℕ, ◌-◌, not, ◌==◌, List, [], ◌∷◌, ◌++◌, filter, Option, None, Some, slice_index_or, slice_set}
 use Rattle.std.specs.List.{last_or}
 use Rattle.mp_words.specs.declared.flight.Flight.{Flight}
 use Rattle.mp_words.specs.declared.entry.RowEntry.{RowEntry}
@@ -10,17 +10,13 @@ use Rattle.mp_words.specs.declared.trying.Back.{Back}
 use Rattle.mp_words.specs.Request.{asked_of}
 use Rattle.mp_words.specs.RequestView.{RequestView}
 use Rattle.mp_record.specs.declared.event.Event.{Event}
-use Rattle.mp_record.specs.declared.event.Event.TheVariants as event
-use Rattle.mp_record.specs.declared.event.Said.{Said}
-use Rattle.mp_record.specs.declared.event.Said.TheVariants as said
-use Rattle.mp_change.specs.declared.change.ChangeEnd.{ChangeEnd}
-use Rattle.mp_change.specs.declared.change.ChangeEnd.TheVariants as change
 use Rattle.mp_core.specs.Core.{Core}
 use Rattle.mp_core.specs.Memory.{Memory}
 use Rattle.mp_legal.specs.PlainState.{with_tries}
 use Rattle.mp_legal.specs.Stepped.{Stepped}
 use Rattle.mp_legal.specs.ToldState.{Beside, state_in, IsAt}
 use Rattle.mp_legal.specs.TryRead.{read_of}
+pub use Rattle.mp_desk.specs.Says.{try_event, back_in, end_event, said_of, entry_in}
 
 -- A call is a plain step: the pass stands behind it where the step leads, it has used so many units, and nothing of
 -- another lane is changed.
@@ -51,20 +47,6 @@ with_try lane after made x =
     let y : Beside = placed lane after.id made.end x in
     record y { requests = with_tries after.id (asked_of after).tries x.requests; reads = x.reads ++ (after.id, read_of made.note) ∷ [] }
 
--- the event of a try
-abbrev pub try_event : RequestView → Try → Event
-try_event after made = event.Try after.id made.hop made.end
-
--- how a try came back, if it was made and did
-abbrev pub back_in : Option Try → Option Back
-back_in None = None
-back_in (Some t) = t.back
-
--- the event of a try's end, if it was made
-abbrev pub end_event : RequestView → Option Try → List Event
-end_event after None = []
-end_event after (Some t) = event.Fin after.id (length after.tries) t.statuses t.count t.back ∷ []
-
 -- the waiting requests after a flight came back so, or didn't
 abbrev pub listed_back : ℕ → Option Back → List ℕ → List ℕ
 listed_back req None waiting = waiting
@@ -82,19 +64,3 @@ with_end f after x = record x {
 abbrev pub units_of : Option Back → ℕ
 units_of None = 0
 units_of (Some way) = 1
-
--- what a line says of how its row change ended; that the row has moved is never said
-abbrev pub said_of : ChangeEnd → List Said
-said_of (change.Changed e) = said.Changed e.slot e.row.version ∷ []
-said_of (change.Refused slot row) = said.Refused slot row.version row.cstate ∷ []
-said_of (change.NotArmed slot row) = said.NotArmed slot row.version ∷ []
-said_of (change.NoPath order) = said.NoPath order.version ∷ []
-said_of (change.Moved slot row) = []
-
--- the row entry that a row change made, if it made one
-abbrev pub entry_in : ChangeEnd → List RowEntry
-entry_in (change.Changed e) = e ∷ []
-entry_in (change.Refused slot row) = []
-entry_in (change.NotArmed slot row) = []
-entry_in (change.NoPath order) = []
-entry_in (change.Moved slot row) = []

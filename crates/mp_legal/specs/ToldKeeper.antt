@@ -1,5 +1,5 @@
 -- How the keeper's data stand to the plain state, and what the keeper's calls do to a run, where the words are told.
-use Rattle.std.specs.Prelude.{◌≡◌, ℕ, ◌+◌, ◌-◌, Bool, true, false, List, [], ◌∷◌, ◌++◌, map, length, nat_lt, Result, Ok, Err}
+use Rattle.std.specs.Prelude.{◌≡◌, ℕ, ◌+◌, ◌-◌, Bool, true, false, List, [], ◌∷◌, ◌++◌, map, length, nat_lt}
 use Rattle.std.specs.List.{list_all}
 use Rattle.mp_words.specs.declared.entry.RowEntry.{RowEntry}
 use Rattle.mp_words.specs.declared.entry.OrderEntry.{OrderEntry}
@@ -7,24 +7,15 @@ use Rattle.mp_words.specs.declared.entry.KeepEntry.{KeepEntry}
 use Rattle.mp_words.specs.declared.entry.KeepEntry.TheVariants as keep
 use Rattle.mp_words.specs.Order.{slots_of}
 use Rattle.mp_record.specs.declared.event.Event.{Event}
-use Rattle.mp_record.specs.declared.event.Said.{Said}
-use Rattle.mp_record.specs.declared.event.Said.TheVariants as said
 use Rattle.mp_core.specs.Core.{Core}
 use Rattle.mp_core.specs.Memory.{Memory, side_at}
-use Rattle.mp_keep.specs.declared.added.Added.{Added}
-use Rattle.mp_keep.specs.declared.add_error.AddError.{AddError}
-use Rattle.mp_keep.specs.declared.add_error.AddError.TheVariants as add
-use Rattle.mp_keep.specs.declared.remove_error.RemoveError.{RemoveError}
-use Rattle.mp_keep.specs.declared.remove_error.RemoveError.TheVariants as remove
-use Rattle.mp_keep.specs.declared.reaped.Reaped.{Reaped}
-use Rattle.mp_keep.specs.declared.reaped.Reaped.TheVariants as reap
-use Rattle.mp_keep.specs.declared.stop.Stop.TheVariants as stop
 use Rattle.mp_keep.specs.declared.stage.Stage.{Stage}
 use Rattle.mp_keep.specs.declared.stage.Stage.TheVariants.{Marked, HalfA, Unlisted, HalfB, Past}
 use Rattle.mp_keep.specs.Keeper.{KeeperView, owner_of}
 use Rattle.mp_legal.specs.PlainState.{State}
 use Rattle.mp_legal.specs.Stepped.{Stepped}
 use Rattle.mp_legal.specs.ToldState.{Beside, state_in, IsAt}
+pub use Rattle.mp_desk.specs.Says.{entry_added, added_said, entry_marked, marked_said, reaped_said}
 
 -- a removal in this stage has begun no grace period, or both are over
 abbrev pub is_at_rest : Stage → Bool
@@ -76,33 +67,3 @@ pub record IsKeeperStep
   pub home : b.home ≡ a.home
   pub others : b.others ≡ a.others
   pub keeping : b.view.keeping.start ≡ a.view.keeping.start
-
--- the row entry that an add made, if it made one
-abbrev pub entry_added : Result Added AddError → List RowEntry
-entry_added (Ok added) = added.row ∷ []
-entry_added (Err e) = []
-
--- what a line says of how its add ended
-abbrev pub added_said : Result Added AddError → Said
-added_said (Ok added) = said.Added added.row.slot added.row.row.version added.order.order.version
-added_said (Err (add.Already slot)) = said.Already slot
-added_said (Err add.NoSlot) = said.NoSlot
-added_said (Err add.OrderFull) = said.OrderFull
-
--- the row entry that the begin of a removal made, if it made one
-abbrev pub entry_marked : Result RowEntry RemoveError → List RowEntry
-entry_marked (Ok entry) = entry ∷ []
-entry_marked (Err e) = []
-
--- what a line says of how its begin of a removal ended; that the row has moved is never said
-abbrev pub marked_said : Result RowEntry RemoveError → List Said
-marked_said (Ok entry) = said.Marked entry.slot entry.row.version ∷ []
-marked_said (Err (remove.NoPath order)) = said.NoPath order.version ∷ []
-marked_said (Err (remove.Moved row)) = []
-
--- what a line says of how its reap ended
-abbrev pub reaped_said : Reaped → Said
-reaped_said reap.Idle = said.Idle
-reaped_said (reap.Freed entry flips) = said.Freed entry.slot entry.row.version flips
-reaped_said (reap.Again slot (stop.Section grace side inside)) = said.AgainSection slot grace side inside
-reaped_said (reap.Again slot (stop.Depth depth)) = said.AgainDepth slot depth

@@ -4,4 +4,8 @@
 
 pub mod calls;
 pub mod cases;
+pub mod desk_turns;
+pub mod desks;
 pub mod keeps;
+pub mod paths;
+pub mod units;

@@ -38,7 +38,7 @@ left_fewer (a ∷ answers) old new stay =
       | inr off ↦ rw off (elim (cases_Bool (is_open old a)) [ inl was ↦ rw was (omega arith) | inr never ↦ rw never more ])
     ]
 
-left_less : (answers : List Answer) (old new : List Asked) (p : Answer → Bool) (x : Answer) → ((a : Answer) → is_open new a ≡ true → is_open old a ≡ true) → find p answers ≡ Some x
+pub left_less : (answers : List Answer) (old new : List Asked) (p : Answer → Bool) (x : Answer) → ((a : Answer) → is_open new a ≡ true → is_open old a ≡ true) → find p answers ≡ Some x
     → is_open old x ≡ true → is_open new x ≡ false → left answers new + 1 ≤ left answers old
 left_less [] old new p x stay is was now = absurd cc
 left_less (a ∷ answers) old new p x stay is was now =
@@ -69,7 +69,7 @@ last-append f [] t = refl
 last-append f (u ∷ []) t = refl
 last-append f (u ∷ v ∷ tries) t = ap (λ (ts : List Tried). u ∷ ts) (last-append f (v ∷ tries) t)
 
-attempts_ended : (statuses : List ℕ) (way : Option Back) (tries : List Tried) (t : Tried) → attempts_of (ended_tries statuses way (tries ++ t ∷ [])) ≡ attempts_of tries + length statuses
+pub attempts_ended : (statuses : List ℕ) (way : Option Back) (tries : List Tried) (t : Tried) → attempts_of (ended_tries statuses way (tries ++ t ∷ [])) ≡ attempts_of tries + length statuses
 attempts_ended statuses way tries t = ap attempts_of (last-append (ended_try statuses way) tries t) ∙ attempts-append tries (ended_try statuses way t)
 
 -- One request made so many more attempts.
@@ -92,7 +92,7 @@ grown_stays req more old new grows a on =
 
 -- ---- the last status of a hop is that of its last attempt
 
-last_of_hop : (g : ℕ → ℕ) (p : ℕ × ℕ → Bool) (k n m : ℕ)
+pub last_of_hop : (g : ℕ → ℕ) (p : ℕ × ℕ → Bool) (k n m : ℕ)
     → last_or None (map (λ (r : ℕ × ℕ). r.1) (through_first p (enumerate_from k (map g (range_with_len n (suc m)))))) ≡ Some (g (n + length (map (λ (r : ℕ × ℕ). r.1) (through_first p (enumerate_from k (map g (range_with_len n (suc m)))))) - 1))
 last_of_hop g p k n zero =
     let e : n ≡ n + 1 - 1 = omega arith in
@@ -122,11 +122,11 @@ found_passes p (a ∷ answers) x is =
     ]
 
 -- a scripted status of this attempt of this request
-record Scripted (answers : List Answer) (req attempt : ℕ) : Type 0 where
-  answer : Answer
-  found : find (is_of req attempt) answers ≡ Some answer
-  req_is : answer.req ≡ req
-  attempt_is : answer.attempt ≡ attempt
+pub record Scripted (answers : List Answer) (req attempt : ℕ) : Type 0 where
+  pub answer : Answer
+  pub found : find (is_of req attempt) answers ≡ Some answer
+  pub req_is : answer.req ≡ req
+  pub attempt_is : answer.attempt ≡ attempt
 
 scripted : (answers : List Answer) (req attempt : ℕ) (x : Answer) → find (is_of req attempt) answers ≡ Some x → Scripted answers req attempt
 scripted answers req attempt x is =
@@ -134,14 +134,14 @@ scripted answers req attempt x is =
     record { answer = x; found = is; req_is = eqb-true x.req req parts.0; attempt_is = eqb-true x.attempt attempt parts.1 }
 
 -- a status that fails over is scripted
-failover_scripted : (answers : List Answer) (req attempt retries : ℕ) (ana : Bool) → disposition_of (answer_for answers req attempt) retries ≡ Failover ana → Scripted answers req attempt
+pub failover_scripted : (answers : List Answer) (req attempt retries : ℕ) (ana : Bool) → disposition_of (answer_for answers req attempt) retries ≡ Failover ana → Scripted answers req attempt
 failover_scripted answers req attempt retries ana is = by_found (find (is_of req attempt) answers) refl is
   where
     by_found : (o : Option Answer) → find (is_of req attempt) answers ≡ o → disposition_of (status_in o) retries ≡ Failover ana → Scripted answers req attempt
     by_found None found is = absurd cc
     by_found (Some x) found is = scripted answers req attempt x found
 
-last_some : (statuses : List ℕ) (x : ℕ) → last_or None statuses ≡ Some x → 1 ≤ length statuses
+pub last_some : (statuses : List ℕ) (x : ℕ) → last_or None statuses ≡ Some x → 1 ≤ length statuses
 last_some [] x is = absurd cc
 last_some (y ∷ statuses) x is = omega arith
 

@@ -54,7 +54,7 @@ open_grows s req t opened there =
       others = λ r other. other_asked r req ((asked_at req s.requests).tries ++ t ∷ []) s.requests other;
     }
 
-open_fewer : (answers : List Answer) (s : State) (req : ℕ) (t : Tried) → t.statuses ≡ [] → has_req req s.requests ≡ true → left answers (with_tries req ((asked_at req s.requests).tries ++ t ∷ []) s.requests) ≤ left answers s.requests
+pub open_fewer : (answers : List Answer) (s : State) (req : ℕ) (t : Tried) → t.statuses ≡ [] → has_req req s.requests ≡ true → left answers (with_tries req ((asked_at req s.requests).tries ++ t ∷ []) s.requests) ≤ left answers s.requests
 open_fewer answers s req t opened there =
     left_fewer answers s.requests (with_tries req ((asked_at req s.requests).tries ++ t ∷ []) s.requests)
     (grown_stays req 0 s.requests (with_tries req ((asked_at req s.requests).tries ++ t ∷ []) s.requests) (open_grows s req t opened there))
@@ -174,7 +174,7 @@ round_brings i s can =
     let all : Brings i.answers (each (sends_and_finishes i) empty s.waiting) (to_come i.answers empty) (length s.waiting) [] = each_brings i empty s.waiting taken in
     record { all = omega (arith, all.all); sent = λ e. omega (arith, all.sent e); can = all.can }
 
-left_few : (answers : List Answer) (requests : List Asked) → left answers requests ≤ length answers
+pub left_few : (answers : List Answer) (requests : List Asked) → left answers requests ≤ length answers
 left_few [] requests = omega arith
 left_few (a ∷ answers) requests =
     let more = left_few answers requests in

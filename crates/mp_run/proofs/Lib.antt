@@ -60,3 +60,8 @@ pub mod Asking
 pub mod TopLaws
 pub mod Accepting
 pub mod Spending
+pub mod ComingBack
+pub mod Costs
+pub mod TurnSums
+pub mod Listings
+pub mod BoundRun

@@ -289,7 +289,7 @@ leaves_submits i at s (req ∷ reqs) lt =
     (λ events holds. submit_holds i.answers i.topology.near at.lane s req reqs events lt holds) (leaves_submits i at first.state reqs lt)
 
 -- the flights of a lane after one of them ended
-left_flights : (answers : List Answer) (lane : ℕ) (s : State) (f : Flight) → (finished answers lane s f).state.flights ≡ set s.flights f.lane (filter (λ g. not (g.req == f.req)) (get_or s.flights f.lane []))
+pub left_flights : (answers : List Answer) (lane : ℕ) (s : State) (f : Flight) → (finished answers lane s f).state.flights ≡ set s.flights f.lane (filter (λ g. not (g.req == f.req)) (get_or s.flights f.lane []))
 left_flights answers lane s f =
     let tries : List Tried = (request_of s f.req).tries in
     let statuses : List ℕ = hop_statuses answers f.req (attempts_of tries + 1) in

@@ -87,7 +87,7 @@ ends_leave i at s fs lt of within =
     (λ events holds. holds_finishes i at s fs [] events lt (of at.lane (holds.seated.home at.lane) refl) within holds)
 
 -- a new request waits
-added_holds : (i : Inputs) (lane : ℕ) (s : State) (req node : ℕ) (events : List Event) → has_req req s.requests ≡ false → Holds i.answers s [] events → Holds i.answers (start_of i lane s (line.Submit req node)).state (req ∷ []) events
+pub added_holds : (i : Inputs) (lane : ℕ) (s : State) (req node : ℕ) (events : List Event) → has_req req s.requests ≡ false → Holds i.answers s [] events → Holds i.answers (start_of i lane s (line.Submit req node)).state (req ∷ []) events
 added_holds i lane s req node events new holds =
     let next : List Asked = (start_of i lane s (line.Submit req node)).state.requests in
     let same : (r : ℕ) → (asked_at r next).tries ≡ (asked_at r s.requests).tries = λ r. tries_added i lane s req node r new in
@@ -128,7 +128,7 @@ added_holds i lane s req node events new holds =
     plain a b e = omega (arith, e)
 
 -- what these submit is new
-abbrev AreNew : List ℕ → State → Type 0
+abbrev pub AreNew : List ℕ → State → Type 0
 AreNew reqs s = (r : ℕ) → has reqs r ≡ true → has_req r s.requests ≡ false
 
 submit_leaves : (i : Inputs) (at : Place) (s : State) (req node : ℕ) → at.lane < 17 → has_req req s.requests ≡ false → Leaves i.answers [] [] s (runs i at (start_of i at.lane s (line.Submit req node)))
@@ -140,7 +140,7 @@ submit_leaves i at s req node lt new =
     (leaves_submits i at start.state (req ∷ []) lt)
 
 -- those that wait are taken from the list
-taken_holds : (answers : List Answer) (s : State) (events : List Event) → Holds answers s [] events → Holds answers (record s { waiting = [] }) s.waiting events
+pub taken_holds : (answers : List Answer) (s : State) (events : List Event) → Holds answers s [] events → Holds answers (record s { waiting = [] }) s.waiting events
 taken_holds answers s events holds = subst (λ (queue : List ℕ). HoldsOf answers s.requests s.flights queue events) (append-nil s.waiting) holds
 
 requeue_leaves : (i : Inputs) (at : Place) (s : State) → at.lane < 17 → Leaves i.answers [] [] s (runs i at (start_of i at.lane s line.Requeue))
@@ -166,14 +166,14 @@ line_leaves i at s (line.Remove ctrl) lt new = one_leaves i at s (remove ctrl) (
 line_leaves i at s line.Reap lt new = one_leaves i at s reap (says_reap at s)
 line_leaves i at s (line.Policy policy) lt new = one_leaves i at s (set_policy policy) (record { requests = refl; flights = refl; waiting = refl; said = (tt, tt) })
 
-turn_leaves : (i : Inputs) (lane : ℕ) (s : State) (turn : Option Numbered1) → lane < 17 → AreNew (submit_in turn) s → Leaves i.answers [] [] s (turn_step i lane s turn)
+pub turn_leaves : (i : Inputs) (lane : ℕ) (s : State) (turn : Option Numbered1) → lane < 17 → AreNew (submit_in turn) s → Leaves i.answers [] [] s (turn_step i lane s turn)
 turn_leaves i lane s (Some l) lt new = line_leaves i (place_of lane (Some l)) s l.line lt new
 turn_leaves i lane s None lt new =
     ends_leave i (place_of lane None) s (flights_of lane s) lt (λ other of is. subst (λ l. AreOf l (flights_of l s)) is of) (λ r. omega arith)
 
 -- ---- the numbers that are there
 
-numbers_each : (i : Inputs) (at : Place) (s : State) (cs : List Call) → numbers (each (call i at) s cs).state.requests ≡ numbers s.requests
+pub numbers_each : (i : Inputs) (at : Place) (s : State) (cs : List Call) → numbers (each (call i at) s cs).state.requests ≡ numbers s.requests
 numbers_each i at s [] = refl
 numbers_each i at s (c ∷ cs) = numbers_each i at (call i at s c).state cs ∙ numbers-call i at s c
 
@@ -206,32 +206,32 @@ start_has : (i : Inputs) (lane : ℕ) (s : State) (turn : Option Numbered1) (r :
 start_has i lane s None r new = or_nothing (has_req r s.requests)
 start_has i lane s (Some l) r new = line_has i lane s l.line r new
 
-turn_has : (i : Inputs) (lane : ℕ) (s : State) (turn : Option Numbered1) (r : ℕ) → AreNew (submit_in turn) s → has_req r (turn_step i lane s turn).state.requests ≡ (has_req r s.requests || has (submit_in turn) r)
+pub turn_has : (i : Inputs) (lane : ℕ) (s : State) (turn : Option Numbered1) (r : ℕ) → AreNew (submit_in turn) s → has_req r (turn_step i lane s turn).state.requests ≡ (has_req r s.requests || has (submit_in turn) r)
 turn_has i lane s turn r new =
     let start : Start = turn_start i lane s turn in
     sym (has-reqs (turn_step i lane s turn).state.requests r) ∙ ap (λ ns. has ns r) (numbers_each i (place_of lane turn) start.state start.calls) ∙ has-reqs start.state.requests r ∙ start_has i lane s turn r new
 
 -- ---- the turns
 
-has_first : (xs ys : List ℕ) (r : ℕ) → has xs r ≡ true → has (xs ++ ys) r ≡ true
+pub has_first : (xs ys : List ℕ) (r : ℕ) → has xs r ≡ true → has (xs ++ ys) r ≡ true
 has_first xs ys r e = has-append xs ys r ∙ ap (λ b. b || has ys r) e
 
-has_second : (xs ys : List ℕ) (r : ℕ) → has ys r ≡ true → has (xs ++ ys) r ≡ true
+pub has_second : (xs ys : List ℕ) (r : ℕ) → has ys r ≡ true → has (xs ++ ys) r ≡ true
 has_second xs ys r e = has-append xs ys r ∙ ap (λ b. has xs r || b) e ∙ or_last (has xs r)
   where
     or_last : (b : Bool) → (b || true) ≡ true
     or_last true = refl
     or_last false = refl
 
-distinct_rest : (xs ys : List ℕ) → IsDistinct (xs ++ ys) → IsDistinct ys
+pub distinct_rest : (xs ys : List ℕ) → IsDistinct (xs ++ ys) → IsDistinct ys
 distinct_rest [] ys d = d
 distinct_rest (x ∷ xs) ys d = distinct_rest xs ys d.1
 
 -- the events of turns, in the order of the turns
-abbrev events_by : List Taken → List Event
+abbrev pub events_by : List Taken → List Event
 events_by ts = flat_map (λ t. t.step.events) ts
 
-turns_leave : (i : Inputs) (s : State) (ts : List Turn) → AreOfLanes 17 ts → AreNew (turns_submits ts) s → IsDistinct (turns_submits ts) → (events : List Event) → Holds i.answers s [] events
+pub turns_leave : (i : Inputs) (s : State) (ts : List Turn) → AreOfLanes 17 ts → AreNew (turns_submits ts) s → IsDistinct (turns_submits ts) → (events : List Event) → Holds i.answers s [] events
     → Holds i.answers (state_after s (taken i s ts)) [] (events ++ events_by (taken i s ts))
 turns_leave i s [] of new distinct events holds = leaves_nothing i.answers [] s events holds
 turns_leave i s (t ∷ ts) of new distinct events holds =
@@ -247,19 +247,19 @@ turns_leave i s (t ∷ ts) of new distinct events holds =
 
 -- ---- the drain
 
-sends_leave : (i : Inputs) (s : State) (req : ℕ) (others : List ℕ) → Leaves i.answers (req ∷ others) others s (sends_and_finishes i s req)
+pub sends_leave : (i : Inputs) (s : State) (req : ℕ) (others : List ℕ) → Leaves i.answers (req ∷ others) others s (sends_and_finishes i s req)
 sends_leave i s req others =
     let one : Stepped = call i drain_place s (submit req) in
     let lt : 16 < 17 = omega arith in
     leaves_joined i.answers (req ∷ others) others others s one (finishes_all i one.state) (λ events holds. submit_holds i.answers i.topology.near 16 s req others events lt holds) (leaves_all i drain_place one.state others lt)
 
-each_sends : (i : Inputs) (s : State) (requests : List ℕ) → Leaves i.answers requests [] s (each (sends_and_finishes i) s requests)
+pub each_sends : (i : Inputs) (s : State) (requests : List ℕ) → Leaves i.answers requests [] s (each (sends_and_finishes i) s requests)
 each_sends i s [] = leaves_nothing i.answers [] s
 each_sends i s (req ∷ requests) =
     let one : Stepped = sends_and_finishes i s req in
     leaves_joined i.answers (req ∷ requests) requests [] s one (each (sends_and_finishes i) one.state requests) (sends_leave i s req requests) (each_sends i one.state requests)
 
-round_leaves : (i : Inputs) (s : State) → Leaves i.answers [] [] s (round i s)
+pub round_leaves : (i : Inputs) (s : State) → Leaves i.answers [] [] s (round i s)
 round_leaves i s =
     let opened : Stepped = says drain_place (record s { waiting = [] }) (said.Requeue (length s.waiting)) in
     let is_said : AreSaid opened.events = (tt, tt) in
@@ -276,7 +276,7 @@ rounds_leave i (suc n) s first is =
       | inr off ↦ rw off is
     ]
 
-says_reaps : (s : State) (slots : List ℕ) → Says s (each (λ t slot. reaped drain_place t) s slots)
+pub says_reaps : (s : State) (slots : List ℕ) → Says s (each (λ t slot. reaped drain_place t) s slots)
 says_reaps s [] = says_nothing s
 says_reaps s (slot ∷ slots) =
     let one : Stepped = reaped drain_place s in
@@ -293,7 +293,7 @@ none_on_the_way : (r n : ℕ) → on_the_way r (replicate n []) ≡ 0
 none_on_the_way r zero = refl
 none_on_the_way r (suc n) = let e : on_the_way r ([] ∷ replicate n []) ≡ 0 + on_the_way r (replicate n []) = sum_by-cons (λ (fs : List Flight). flown r fs) [] (replicate n []) in e ∙ ap (λ m. 0 + m) (none_on_the_way r n)
 
-opening_holds : (i : Inputs) → Holds i.answers (opening i) [] []
+pub opening_holds : (i : Inputs) → Holds i.answers (opening i) [] []
 opening_holds i = record {
   seated = record {
     lanes = let e = length-replicate {A = List Flight} 17 [] in omega (arith, e);

@@ -25,3 +25,4 @@ pub mod Outcome
 pub mod Outside
 pub mod TooLong
 pub mod Accepted
+pub mod Bound

@@ -23,3 +23,4 @@ mod texts;
 pub mod top;
 mod try_notes;
 mod turns;
+pub mod unit_laws;

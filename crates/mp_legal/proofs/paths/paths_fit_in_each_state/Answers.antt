@@ -1,0 +1,5 @@
+use Rattle.mp_legal.proofs.FitOpening.{run_fits}
+use Rattle.mp_legal.proofs.paths.paths_fit_in_each_state.Goals as goal
+
+pub returns : goal.returns
+returns c = λ i lanes read. run_fits (record { numa = c.what_is_chosen_is_usable.ensures.numa; round_robin = c.what_is_chosen_is_usable.ensures.round_robin; queue_depth = c.what_is_chosen_is_usable.ensures.queue_depth }) i lanes read
