@@ -13,11 +13,12 @@ use Rattle.mp_change.specs.declared.change.ChangeEnd.{ChangeEnd}
 use Rattle.mp_change.specs.declared.change.ChangeEnd.TheVariants as ending
 use Rattle.mp_change.specs.Changes.{ChangesPath, IsMoved}
 use Rattle.mp_keep.specs.Keeper.{KeeperView}
-use Rattle.mp_desk.specs.DeskView.{DeskView, noting, entering}
-use Rattle.mp_desk.specs.Calls.{Means, CallTo, change, ChangeStays, ChangeEnds, After, IsShort, Sits, KeepsPass}
-use Rattle.mp_desk.specs.Desks.{Leaves, stand}
+use Rattle.mp_desk.specs.DeskView.{DeskView, noting, entering, unended}
+use Rattle.mp_desk.specs.Calls.{Means, CallTo, change, ChangeStays, ChangeEnds, After, DoesNothing, IsShort, Sits, KeepsPass}
+use Rattle.mp_desk.specs.Desks.{KeepsStand, Leaves, stand}
 use Rattle.mp_desk.specs.Says.{entry_in, said_of, section_of, section, is_over}
 use Rattle.mp_desk.proofs.Again.{Again, after_again}
+use Rattle.mp_desk.proofs.KeeperStands.{change_stands}
 use Rattle.mp_desk.proofs.Sitting.{AtDesk, change_stays, kept_on, sits_so}
 
 -- by what a line goes
@@ -30,6 +31,8 @@ pub record GoesOn (line ctrl : ℕ) (o : Op) (a c : Core) (d e : DeskView) (n mo
   pub kept : KeepsPass a c
   pub left : c.view.left + n ≡ most
   pub all : most ≡ a.view.left
+  pub stands : KeepsStand a c
+  pub weight : unended e ≤ unended d
   pub again : (near : Near) (answers : List Answer) (k : KeeperView) → (m : ℕ) × Again m (ChangeStays (means near answers line) ctrl o) (stand a d k) (stand c e k)
 
 -- One change, and what was noted of it.
@@ -76,6 +79,13 @@ leaves line ctrl o a c b d e f r m most lane end n g h =
     let k = sits_so c.view.flights c b f s (subst (AtDesk c.view.flights) (sym (desk_so h)) (record { flights_are = g.sits.flights; aloft = g.sits.aloft; waiting = g.sits.waiting })) in
     record { sits = k.sits; kept = kept_on a c b g.kept k.kept }
 
+-- a keeper stands as before then, and no request came
+pub stands : (line ctrl : ℕ) (o : Op) (a c b : Core) (d e f r : DeskView) (m most lane : ℕ) (end : ChangeEnd) (n : Note) → GoesOn line ctrl o a c d e m most → Notes line ctrl o c b e f r lane end n → KeepsStand a b
+stands line ctrl o a c b d e f r m most lane end n g h k s = change_stands ctrl o _ c b end n h.seen h.changes k (g.stands k s)
+
+pub weighs : (line ctrl : ℕ) (o : Op) (a c b : Core) (d e f r : DeskView) (m most lane : ℕ) (end : ChangeEnd) (n : Note) → GoesOn line ctrl o a c d e m most → Notes line ctrl o c b e f r lane end n → unended f ≤ unended d
+weighs line ctrl o a c b d e f r m most lane end n g h = let same : unended f ≡ unended e = ap unended (desk_so h) in omega (arith, same, g.weight)
+
 -- where it met no other row it is done
 pub does : (line ctrl : ℕ) (o : Op) (a c b : Core) (d e f r : DeskView) (m most lane : ℕ) (end : ChangeEnd) (n : Note) → GoesOn line ctrl o a c d e m most → Notes line ctrl o c b e f r lane end n → is_over end ≡ true → m < most
     → (near : Near) (answers : List Answer) (k : KeeperView) → CallTo (means near answers line) (change ctrl o) (stand a d k) (stand b f k)
@@ -107,6 +117,8 @@ goes_on line ctrl o a c b d e f r m most lane end n g h over below =
       kept = l.kept;
       left = omega (arith, used, g.left, below);
       all = g.all;
+      stands = stands line ctrl o a c b d e f r m most lane end n g h;
+      weight = weighs line ctrl o a c b d e f r m most lane end n g h;
       again = λ near answers k.
           let again = g.again near answers k in (
             suc again.0,
@@ -135,3 +147,10 @@ stops line ctrl o a c d e m most g all near answers k =
     let w = means near answers line in
     let short : c.view.left < 1 = omega (arith, g.left, all) in
     after_again again.0 0 (ChangeStays w ctrl o) (IsShort 1) (stand a d k) (stand c e k) (stand c e k) again.1 (short, refl)
+
+-- where memory runs out it breaks off
+pub breaks : (line ctrl : ℕ) (o : Op) (a c : Core) (d e r : DeskView) (m most : ℕ) → GoesOn line ctrl o a c d e m most → r ≡ e
+    → (near : Near) (answers : List Answer) (k : KeeperView) → (j : ℕ) × After j (ChangeStays (means near answers line) ctrl o) DoesNothing (stand a d k) (stand c r k)
+breaks line ctrl o a c d e r m most g room near answers k =
+    let again = g.again near answers k in
+    after_again again.0 0 (ChangeStays (means near answers line) ctrl o) DoesNothing (stand a d k) (stand c e k) (stand c r k) again.1 (ap (λ (z : DeskView). stand c z k) room)

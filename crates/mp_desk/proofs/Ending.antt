@@ -4,6 +4,9 @@ use Rattle.std.specs.List.{list_any}
 use Rattle.std.proofs.lemmas.List.{nil_from_length}
 use Rattle.mp_words.specs.declared.flight.Flight.{Flight}
 use Rattle.mp_core.specs.declared.view.Held.{Held}
+use Rattle.mp_core.specs.declared.view.View.{View}
+use Rattle.mp_keep.specs.Keeper.{StandsTo}
+use Rattle.mp_desk.proofs.KeeperStands.{stands_same}
 use Rattle.mp_core.specs.Core.{Core}
 use Rattle.mp_core.specs.Kinds.{Lands}
 use Rattle.mp_core.specs.Memory.{Memory, landed_in}
@@ -11,7 +14,7 @@ use Rattle.mp_core.specs.Views.{flights_without, has_flight, is_flight}
 use Rattle.mp_desk.specs.declared.flying.Flying.{Flying}
 use Rattle.mp_desk.specs.DeskView.{DeskView}
 use Rattle.mp_desk.specs.Calls.{EndsAll, Sits, landed_all}
-use Rattle.mp_desk.specs.Desks.{Leaves}
+use Rattle.mp_desk.specs.Desks.{KeepsStand, Leaves}
 use Rattle.mp_desk.specs.Indexed.{TakesFirst}
 use Rattle.mp_desk.proofs.Sitting.{first_gone, flies}
 
@@ -87,6 +90,12 @@ ends_all a c d e n most h over =
       core = h.core ∙ (λ i. with_flying (map (λ f. f.flight) (is i)) c.view.keeping.last (option_map (landed_all (map (λ f. f.flight) (all i))) a.told) a);
       desk = h.desk ∙ (λ i. record d { flying = is i });
     }
+
+-- a keeper stands as before then
+pub end_stands : (a c : Core) (d e : DeskView) → EndsAll a c d e → KeepsStand a c
+end_stands a c d e h k s =
+    let v : View = record (a.view) { flights = []; keeping = record (a.view.keeping) { last = c.view.keeping.last } } in
+    subst (StandsTo k) (sym (ap (λ (z : Core). z.view) h.core)) (stands_same k a.view v refl refl refl refl refl s)
 
 pub end_leaves : (a c : Core) (d e : DeskView) → EndsAll a c d e → Sits a d → Leaves a c e
 end_leaves a c d e h s = record {

@@ -1,6 +1,7 @@
 -- The finish of a flight that was taken from a desk.
 use Rattle.std.proofs.Common.{◌≡◌, ℕ, suc, ◌+◌, ◌-◌, ◌<◌, ◌≤◌, true, List, [], ◌∷◌, ◌++◌, length, map, Option, Some, None, option_map, refl, sym, ap, ◌∙◌, subst, arith}
 use Rattle.std.specs.List.{last_or, list_any, AllByRecursion}
+use Rattle.std.proofs.lemmas.List.{length-append}
 use Rattle.mp_words.specs.declared.answers.Answer.{Answer}
 use Rattle.mp_words.specs.declared.flight.Flight.{Flight}
 use Rattle.mp_words.specs.declared.near.Near.{Near}
@@ -23,11 +24,12 @@ use Rattle.mp_submit.specs.declared.finish.Finished.TheVariants as finished
 use Rattle.mp_submit.specs.Finishes.{Finishes, FinishTo, Ended, six_of}
 use Rattle.mp_keep.specs.Keeper.{KeeperView}
 use Rattle.mp_desk.specs.declared.flying.Flying.{Flying}
-use Rattle.mp_desk.specs.DeskView.{DeskView, noting, entering, landing}
-use Rattle.mp_desk.specs.Calls.{Means, FlightStays, FlightEnds, FlightFalls, After, HasLeft, KeepsPass, IsAloft, IsWaiting}
-use Rattle.mp_desk.specs.Desks.{IsTaken, Leaves, stand}
+use Rattle.mp_desk.specs.DeskView.{DeskView, noting, entering, landing, unended}
+use Rattle.mp_desk.specs.Calls.{Means, FlightStays, FlightEnds, FlightFalls, FlightDrops, After, HasLeft, KeepsPass, IsAloft, IsWaiting}
+use Rattle.mp_desk.specs.Desks.{IsTaken, KeepsStand, Leaves, stand}
 use Rattle.mp_desk.specs.Says.{back_in, end_event, entries_back, moved_section, sections_of}
 use Rattle.mp_desk.proofs.Again.{Again, after_again}
+use Rattle.mp_desk.proofs.KeeperStands.{finish_stands, lands_stand}
 use Rattle.mp_desk.proofs.Sitting.{AtDesk, Stays, all_without, all_append, fails_stays, first_gone, flies, kept_on, lands_stays, marks_stays, sits_so}
 
 -- by what a finish goes
@@ -41,6 +43,8 @@ pub record GoesOn (answers : List Answer) (f : Flying) (a c : Core) (d e : DeskV
   pub left : c.view.left + n ≡ most
   pub all : most ≡ a.view.left
   pub same : r ≡ f.request
+  pub stands : KeepsStand a c
+  pub weight : unended e ≤ unended d
   pub again : (near : Near) (line : ℕ) (k : KeeperView) → (m : ℕ) × Again m (FlightStays (means near answers line) f) (stand a d k) (stand c e k)
 
 -- ---- the last try
@@ -173,6 +177,26 @@ leaves answers f a c b d e g r before after answer m most on h =
     let l = sits_so (flights_without f.flight c.view.flights) c b g s.stays (subst (AtDesk (flights_without f.flight c.view.flights)) (sym (desk_so answers f c b e g r before after answer h)) at) in
     record { sits = l.sits; kept = kept_on a c b on.kept l.kept }
 
+-- a keeper stands as before then, and the request is one more
+pub stands : (answers : List Answer) (f : Flying) (a c b : Core) (d e g r : DeskView) (before after : RequestView) (answer : Finished) (m most : ℕ) → GoesOn answers f a c d e before m most → Notes answers f c b e g r before after answer → KeepsStand a b
+stands answers f a c b d e g r before after answer m most on h k s = finish_stands answers c b f.flight before after answer h.finishes k (on.stands k s)
+
+landing_weighs : (r : RequestView) (way : Option Back) (e : DeskView) → unended (landing r way e) ≤ unended e + 1
+landing_weighs r None e = omega arith
+landing_weighs r (Some way) e = omega (arith, length-append e.out (r ∷ []))
+
+pub weighs : (answers : List Answer) (f : Flying) (a c b : Core) (d e g r : DeskView) (before after : RequestView) (answer : Finished) (m most : ℕ) → GoesOn answers f a c d e before m most → Notes answers f c b e g r before after answer → unended g ≤ unended d + 1
+weighs answers f a c b d e g r before after answer m most on h =
+    let way = back_in (last_or None after.tries) in
+    let z : DeskView = entering (entries_back way) (noting (sections_of answer ++ end_event after (last_or None after.tries)) e) in
+    let is : unended g ≡ unended (landing after way z) = ap unended (desk_so answers f c b e g r before after answer h) in
+    let more : unended (landing after way z) ≤ unended e + 1 = landing_weighs after way z in
+    omega (arith, is, more, on.weight)
+
+-- and so it does where the flight falls
+pub falls_stands : (f : Flying) (a c b : Core) → KeepsStand a c → Lands c b f.flight → KeepsStand a b
+falls_stands f a c b stands lands k s = lands_stand c b f.flight lands k (stands k s)
+
 -- and then it is done
 pub does : (answers : List Answer) (f : Flying) (a c b : Core) (d e g r : DeskView) (before after : RequestView) (answer : Finished) (m most : ℕ) → GoesOn answers f a c d e before m most → Notes answers f c b e g r before after answer → m < most
     → (near : Near) (line : ℕ) (k : KeeperView) → (1 ≤ a.view.left) × (j : ℕ) × After j (FlightStays (means near answers line) f) (FlightEnds (means near answers line) f) (stand a d k) (stand b g k)
@@ -225,7 +249,17 @@ goes_on answers f a c b d e g r before after again row n m most on fin room desk
       left = omega (arith, used, on.left, below);
       all = on.all;
       same = to.3 ∙ on.same;
+      stands = λ k s. finish_stands answers c b f.flight before after (finished.Moved again row n) fin k (on.stands k s);
+      weight = let even : unended g ≡ unended e = ap unended is in omega (arith, even, on.weight);
       again = λ near line k.
           let more = on.again near line k in
           (suc more.0, (stand c e k, more.1, record { paid = omega (arith, on.left, below); row = row; note = n; finishes = own; desk = is; keeper = refl }));
     }
+
+-- it falls for want of memory
+pub breaks : (answers : List Answer) (f : Flying) (a c b : Core) (d e g : DeskView) (r : RequestView) (m most : ℕ) → GoesOn answers f a c d e r m most → g ≡ e → Lands c b f.flight
+    → (near : Near) (line : ℕ) (k : KeeperView) → (j : ℕ) × After j (FlightStays (means near answers line) f) (FlightDrops f) (stand a d k) (stand b g k)
+breaks answers f a c b d e g r m most on room lands near line k =
+    let again = on.again near line k in
+    let drops : FlightDrops f (stand c e k) (stand b g k) = record { lands = lands; desk = room; keeper = refl } in
+    after_again again.0 0 (FlightStays (means near answers line) f) (FlightDrops f) (stand a d k) (stand c e k) (stand b g k) again.1 drops

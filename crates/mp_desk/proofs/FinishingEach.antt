@@ -11,9 +11,9 @@ use Rattle.mp_keep.specs.Keeper.{KeeperView}
 use Rattle.mp_desk.specs.declared.flying.Flying.{Flying}
 use Rattle.mp_desk.specs.declared.halt.Halt.{Halt}
 use Rattle.mp_desk.specs.declared.halt.Halt.TheVariants as halt
-use Rattle.mp_desk.specs.DeskView.{DeskView, flying_with, landing}
-use Rattle.mp_desk.specs.Calls.{DeskCall, Means, Stand, finish, CallTo, CallsTo, StopsTo, Does, FlightStays, FlightEnds, FlightFalls, After, Taking, TakesFlying, Sits, KeepsPass}
-use Rattle.mp_desk.specs.Desks.{DoesFlight, IsTaken, Leaves, stand}
+use Rattle.mp_desk.specs.DeskView.{DeskView, flying_with, landing, unended}
+use Rattle.mp_desk.specs.Calls.{DeskCall, Means, Stand, finish, CallTo, CallsTo, StopsTo, BreaksTo, Does, IfWant, FlightStays, FlightEnds, FlightFalls, FlightDrops, After, Taking, TakesFlying, Sits, KeepsPass}
+use Rattle.mp_desk.specs.Desks.{BreaksFlight, DoesFlight, IsTaken, KeepsStand, Leaves, stand}
 use Rattle.mp_desk.specs.Indexed.{TakesFirst, flying_of, is_named}
 use Rattle.mp_desk.proofs.Finishing.{means}
 use Rattle.mp_desk.proofs.Indexed.{of-append}
@@ -31,6 +31,8 @@ pub record GoesOn (answers : List Answer) (named : Option ℕ) (a c : Core) (d e
   pub sits : Sits c e
   pub kept : KeepsPass a c
   pub all : most ≡ length (flying_of named d.flying)
+  pub stands : KeepsStand a c
+  pub weight : unended e ≤ unended d
   pub done : (near : Near) (line : ℕ) (k : KeeperView) → Finished (means near answers line) named (stand a d k) (stand c e k) n
 
 -- one call more
@@ -86,15 +88,24 @@ stays_flying w f n p q h = go n p q h
     go (suc n) p q h = go n h.0 q h.2 ∙ ap (λ (d : DeskView). d.flying) h.1.desk
 
 pub starts : (answers : List Answer) (named : Option ℕ) (a : Core) (d : DeskView) (most : ℕ) → Sits a d → KeepsPass a a → most ≡ length (flying_of named d.flying) → GoesOn answers named a a d d 0 most
-starts answers named a d most s kept all = record { sits = s; kept = kept; all = all; done = λ near line k. record { gone = []; split = refl; counted = refl; calls = refl } }
+starts answers named a d most s kept all = record { sits = s; kept = kept; all = all; stands = λ k h. h; weight = omega arith; done = λ near line k. record { gone = []; split = refl; counted = refl; calls = refl } }
+
+-- a flight that was taken counts no more, and its request counts again
+pub weighs : (named : Option ℕ) (f : Flying) (a c : Core) (d e g : DeskView) (new : List Flying) (n most : ℕ) (answers : List Answer) → GoesOn answers named a c d e n most → TakesFirst named f e.flying new → unended g ≤ unended (record e { flying = new }) + 1 → unended g ≤ unended d
+weighs named f a c d e g new n most answers on t weight =
+    let was : length e.flying ≡ length t.before + length (f ∷ t.after) = ap length t.was ∙ length-append t.before (f ∷ t.after) in
+    let is : length new ≡ length t.before + length t.after = ap length t.is ∙ length-append t.before t.after in
+    omega (arith, was, is, weight, on.weight)
 
 -- one more is finished
 pub goes_on : {T : Type 0} (result : Result T Halt) (x : T) (answers : List Answer) (named : Option ℕ) (f : Flying) (a c b : Core) (d e g : DeskView) (new : List Flying) (n most : ℕ) → GoesOn answers named a c d e n most → TakesFirst named f e.flying new
-    → result ≡ Ok x → ((near : Near) (line : ℕ) → DoesFlight result (means near answers line) f c b (record e { flying = new }) g) → Leaves c b g → GoesOn answers named a b d g (n + 1) most
-goes_on result x answers named f a c b d e g new n most on t is does l = record {
+    → result ≡ Ok x → ((near : Near) (line : ℕ) → DoesFlight result (means near answers line) f c b (record e { flying = new }) g) → Leaves c b g → KeepsStand c b → unended g ≤ unended (record e { flying = new }) + 1 → GoesOn answers named a b d g (n + 1) most
+goes_on result x answers named f a c b d e g new n most on t is does l stands weight = record {
   sits = l.sits;
   kept = kept_on a c b on.kept l.kept;
   all = on.all;
+  stands = λ k s. stands k (on.stands k s);
+  weight = weighs named f a c d e g new n most answers on t weight;
   done = λ near line k.
       let w = means near answers line in
       let so = on.done near line k in
@@ -145,11 +156,32 @@ stops U result halt.Spent answers named f a c b d e g new n most on t is does ne
       stops = (h.0, record { desk = record e { flying = new }; takes = takes_so named f e new t; goes = h.1 });
     }
 
+-- memory ran out at one
+pub breaks : (U : Type 0) {T : Type 0} (result : Result T Halt) (why : Halt) (answers : List Answer) (named : Option ℕ) (f : Flying) (a c b : Core) (d e g : DeskView) (new : List Flying) (n most : ℕ) → GoesOn answers named a c d e n most → TakesFirst named f e.flying new
+    → result ≡ Err why → ((near : Near) (line : ℕ) → BreaksFlight result (means near answers line) f c b (record e { flying = new }) g)
+    → (near : Near) (line : ℕ) (k : KeeperView) → IfWant {T = U} (Err why) (BreaksTo (means near answers line) (map finish (flying_of named d.flying)) (stand a d k) (stand b g k))
+breaks U result halt.Spent answers named f a c b d e g new n most on t is broke near line k = tt
+breaks U result halt.NoMemory answers named f a c b d e g new n most on t is broke near line k =
+    let w = means near answers line in
+    let so = on.done near line k in
+    let h : (m : ℕ) × After m (FlightStays w f) (FlightDrops f) (stand c (record e { flying = new }) k) (stand b g k) = subst (λ r. IfWant r ((m : ℕ) × After m (FlightStays w f) (FlightDrops f) (stand c (record e { flying = new }) k) (stand b g k))) is (broke near line k) in
+    record {
+      before = map finish so.gone;
+      broken = finish f;
+      behind = map finish (flying_of named new);
+      split = ap (map finish) (so.split ∙ ap (λ (fs : List Flying). so.gone ++ fs) (left_so named f e.flying new t)) ∙ map_split so.gone f (flying_of named new);
+      mid = stand c e k;
+      done = so.calls;
+      breaks = (h.0, record { desk = record e { flying = new }; takes = takes_so named f e new t; goes = h.1 });
+    }
+
 -- there was none to take, which can't be
 pub goes_still : (answers : List Answer) (named : Option ℕ) (a c : Core) (d e : DeskView) (new : List Flying) (n most : ℕ) → GoesOn answers named a c d e n most → n < most → flying_of named e.flying ≡ [] → new ≡ e.flying → GoesOn answers named a c d (record e { flying = new }) (n + 1) most
 goes_still answers named a c d e new n most on below hasnt is = record {
   sits = subst (λ (fs : List Flying). Sits c (record e { flying = fs })) (sym is) on.sits;
   kept = on.kept;
   all = on.all;
+  stands = on.stands;
+  weight = let same : length new ≡ length e.flying = ap length is in omega (arith, same, on.weight);
   done = λ near line k. absurd (there_is_one answers named a c d e n most on below hasnt near line k);
 }

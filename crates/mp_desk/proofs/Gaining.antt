@@ -45,7 +45,7 @@ use Rattle.mp_keep.specs.Walks as walk
 use Rattle.mp_desk.specs.declared.flying.Flying.{Flying}
 use Rattle.mp_desk.specs.DeskView.{DeskView, noting, entering, placing, landing}
 use Rattle.mp_desk.specs.Says.{added_said, back_in, end_event, entries_back, entry_added, entry_in, entry_marked, marked_said, moved_section, reaped_said, section, sections_of, said_of, try_event}
-use Rattle.mp_desk.specs.Calls.{After, CallsTo, ChangeEnds, ChangeStays, DeskCall, EndsAll, FlightEnds, FlightFalls, FlightStays, GoesTo, HasLeft, IsLaneCall, IsShort, Means, RemovalBegins, RemovalStays, Stand, StopTo, StopsTo, Submitting, TakesFlying, change, finish, submit, add, remove, set_policy, reap, at_desk, maker_at, needs, with_room}
+use Rattle.mp_desk.specs.Calls.{After, BreakTo, BreaksTo, CallsTo, ChangeEnds, ChangeStays, DeskCall, DoesNothing, EndsAll, FlightDrops, FlightEnds, FlightFalls, FlightStays, GoesTo, HasLeft, IsLaneCall, IsShort, MakesRoom, Means, RemovalBegins, RemovalStays, Stand, StopTo, StopsTo, Submitting, TakesFlying, change, finish, submit, add, remove, set_policy, reap, at_desk, maker_at, needs, with_room}
 use Rattle.mp_desk.specs.Gains.{Gains, UsesSections, sections_in}
 use Rattle.mp_desk.proofs.Finishing.{last_changed}
 
@@ -257,6 +257,28 @@ calls_gain w (c ∷ cs) p q to = gains_on p to.0 q (goes_gain w c p to.0 to.1.go
 pub stops_gain : (w : Means) (cs : List DeskCall) (p q : Stand) → StopsTo w cs p q → Gains p q
 stops_gain w cs p q h = gains_on p h.mid q (calls_gain w h.before p h.mid h.done) (stop_gain w h.stopped h.mid q h.stops)
 
+nothing_gains : (p q : Stand) → DoesNothing p q → Gains p q
+nothing_gains p q is = subst (Gains p) (sym is) (gains_none p)
+
+room_gains : (p q : Stand) → MakesRoom p q → Gains p q
+room_gains p q h = subst (Gains p) (sym h.same) (let g = gains_none p in record { events = g.events; noted = g.noted; sections = g.sections; rows = g.rows; kept = g.kept; made = g.made })
+
+flight_drops : (f : Flying) (p q : Stand) → FlightDrops f p q → Gains p q
+flight_drops f p q s =
+    gains_so p q p.desk [] [] s.desk (sym (append-nil p.desk.events)) (sym (append-nil p.desk.rows)) (ap (λ (c : Core). c.view.done) s.lands.after ∙ sym (append-nil p.core.view.done)) (ap (λ (c : Core). c.view.entries) s.lands.after ∙ sym (append-nil p.core.view.entries))
+
+break_gain : (w : Means) (c : DeskCall) (p q : Stand) → BreakTo w c p q → Gains p q
+break_gain w (submit r) p q to = nothing_gains p q to
+break_gain w (finish f) p q to = taken_gain f p q to.1.desk to.1.takes (after_gain (FlightStays w f) (FlightDrops f) (flight_stays w f) (flight_drops f) to.0 (at_desk to.1.desk p) q to.1.goes)
+break_gain w (change ctrl o) p q to = after_gain (ChangeStays w ctrl o) DoesNothing (change_stays w ctrl o) nothing_gains to.0 p q to.1
+break_gain w (add gift) p q to = room_gains p q to
+break_gain w (remove ctrl) p q to = after_gain (RemovalStays w ctrl) MakesRoom (removal_stays w ctrl) room_gains to.0 p q to.1
+break_gain w (set_policy policy) p q to = room_gains p q to
+break_gain w reap p q to = room_gains p q to
+
+pub breaks_gain : (w : Means) (cs : List DeskCall) (p q : Stand) → BreaksTo w cs p q → Gains p q
+breaks_gain w cs p q h = gains_on p h.mid q (calls_gain w h.before p h.mid h.done) (break_gain w h.broken h.mid q h.breaks)
+
 pub ends_all_gain : (p q : Stand) → EndsAll p.core q.core p.desk q.desk → Gains p q
 ends_all_gain p q h =
     gains_so p q (record (p.desk) { flying = [] }) [] [] h.desk (sym (append-nil p.desk.events)) (sym (append-nil p.desk.rows)) (ap (λ (c : Core). c.view.done) h.core ∙ sym (append-nil p.core.view.done)) (ap (λ (c : Core). c.view.entries) h.core ∙ sym (append-nil p.core.view.entries))
@@ -364,3 +386,25 @@ pub stops_use : (w : Means) (cs : List DeskCall) (p q : Stand) → AllByRecursio
 stops_use w cs p q lane h =
     let all = all_before h.before (h.stopped ∷ h.behind) (subst (AllByRecursion IsLaneCall) h.split lane) in
     uses_on p h.mid q (calls_use w h.before p h.mid all.0 h.done) (stop_uses w h.stopped h.mid q all.1.0 h.stops)
+
+nothing_uses : (p q : Stand) → DoesNothing p q → UsesSections p q
+nothing_uses p q is = subst (UsesSections p) (sym is) (uses_none p)
+
+flight_drops_uses : (f : Flying) (p q : Stand) → FlightDrops f p q → UsesSections p q
+flight_drops_uses f p q s =
+    let same : q.core.view.left ≡ p.core.view.left = ap (λ (c : Core). c.view.left) s.lands.after in
+    uses_so p q p.desk [] s.desk (sym (append-nil p.desk.events)) (omega (arith, same))
+
+break_uses : (w : Means) (c : DeskCall) (p q : Stand) → IsLaneCall c → BreakTo w c p q → UsesSections p q
+break_uses w (submit r) p q lane to = nothing_uses p q to
+break_uses w (finish f) p q lane to = taken_uses f p q to.1.desk to.1.takes (after_uses (FlightStays w f) (FlightDrops f) (flight_stays_uses w f) (flight_drops_uses f) to.0 (at_desk to.1.desk p) q to.1.goes)
+break_uses w (change ctrl o) p q lane to = after_uses (ChangeStays w ctrl o) DoesNothing (change_stays_uses w ctrl o) nothing_uses to.0 p q to.1
+break_uses w (add gift) p q lane to = absurd lane
+break_uses w (remove ctrl) p q lane to = absurd lane
+break_uses w (set_policy policy) p q lane to = absurd lane
+break_uses w reap p q lane to = absurd lane
+
+pub breaks_use : (w : Means) (cs : List DeskCall) (p q : Stand) → AllByRecursion IsLaneCall cs → BreaksTo w cs p q → UsesSections p q
+breaks_use w cs p q lane h =
+    let all = all_before h.before (h.broken ∷ h.behind) (subst (AllByRecursion IsLaneCall) h.split lane) in
+    uses_on p h.mid q (calls_use w h.before p h.mid all.0 h.done) (break_uses w h.broken h.mid q all.1.0 h.breaks)

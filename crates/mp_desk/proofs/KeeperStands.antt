@@ -33,6 +33,7 @@ use Rattle.mp_submit.specs.Finishes.{Finishes, FinishTo, FailsOver, hop_of}
 use Rattle.mp_submit.specs.Submits.{Submits}
 use Rattle.mp_keep.specs.Keeper.{KeeperView, StandsTo, StatusBy, IsSound, removal_of, has_entry}
 use Rattle.mp_keep.proofs.Stands.{passed_stands, clears_stand}
+pub use Rattle.mp_desk.specs.Desks.{KeepsStand}
 
 -- where its part stays but for the row that it holds
 pub stands_same : (k : KeeperView) (v w : View) → w.role ≡ v.role → w.keeping.start ≡ v.keeping.start → w.keeping.events ≡ v.keeping.events → w.keeping.flips ≡ v.keeping.flips → w.keeping.index ≡ v.keeping.index
@@ -85,10 +86,6 @@ end_stands k (end.NotArmed slot row) v s = s
 end_stands k (end.NoPath order) v s = s
 end_stands k (end.Moved slot row) v s = s
 
--- The keeper stands to the second view where it stands to the first.
-abbrev pub KeepsStand : Core → Core → Type 0
-KeepsStand a b = (k : KeeperView) → StandsTo k a.view → StandsTo k b.view
-
 -- the view after a call differs from this one by what the keeper's part doesn't have
 like : (k : KeeperView) (v : View) (b c : Core) → b ≡ c → c.view.role ≡ v.role → c.view.keeping.start ≡ v.keeping.start → c.view.keeping.events ≡ v.keeping.events → c.view.keeping.flips ≡ v.keeping.flips → c.view.keeping.index ≡ v.keeping.index
     → StandsTo k v → StandsTo k b.view
@@ -117,7 +114,7 @@ fails_stand (class.Failover false) a b f by note way h = drops_stand f.slot a b 
 fails_stand class.Complete a b f by note way h = absurd h
 fails_stand class.Retry a b f by note way h = absurd h
 
-lands_stand : (a b : Core) (f : Flight) → Lands a b f → KeepsStand a b
+pub lands_stand : (a b : Core) (f : Flight) → Lands a b f → KeepsStand a b
 lands_stand a b f h k s = like k a.view b _ h.after refl refl refl refl refl s
 
 finish_to : (answers : List Answer) (a b : Core) (f : Flight) (before after : RequestView) (answer : Finished) → FinishTo answers a b f before after answer → KeepsStand a b

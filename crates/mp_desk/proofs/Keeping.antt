@@ -24,8 +24,8 @@ use Rattle.mp_keep.specs.declared.remove_error.RemoveError.TheVariants as refuse
 use Rattle.mp_keep.specs.Keeper.{KeeperView, StandsTo}
 use Rattle.mp_keep.specs.Keeps.{AddTo, Removes, RemoveTo, SetsPolicy, MeetsRow}
 use Rattle.mp_keep.specs.Walks.{Reaps}
-use Rattle.mp_desk.specs.DeskView.{DeskView, noting, entering}
-use Rattle.mp_desk.specs.Calls.{Means, CallTo, remove, RemovalStays, RemovalBegins, After, HasMoved, IsShort, Sits, KeepsPass, with_room}
+use Rattle.mp_desk.specs.DeskView.{DeskView, noting, entering, unended}
+use Rattle.mp_desk.specs.Calls.{Means, CallTo, remove, RemovalStays, RemovalBegins, After, HasMoved, IsShort, MakesRoom, Sits, KeepsPass, with_room}
 use Rattle.mp_desk.specs.Desks.{KeeperLeaves, stand}
 use Rattle.mp_desk.specs.Says.{entry_marked, marked_said, is_begun}
 use Rattle.mp_desk.proofs.Again.{Again, after_again}
@@ -39,6 +39,14 @@ means near answers line = record { near = near; answers = answers; line = line }
 -- the pass and its desk are as they were, but for room
 pub room_leaves : (a c : Core) (d e r : DeskView) (k l : KeeperView) → KeepsPass a c → Sits c e → r ≡ e → StandsTo k c.view → l ≡ record k { spare = l.spare } → KeeperLeaves a c r l
 room_leaves a c d e r k l kept sits room stands is = record { sits = subst (Sits c) (sym room) sits; kept = kept; stands = stands_room k l c.view is stands }
+
+-- room leaves the requests
+pub room_weighs : (d r : DeskView) → r ≡ d → unended r ≤ unended d
+room_weighs d r is = let same : unended r ≡ unended d = ap unended is in omega (arith, same)
+
+-- what was made and noted leaves them too
+pub notes_weigh : (d r e : DeskView) (rows : List RowEntry) (events : List Event) → r ≡ d → e ≡ entering rows (noting events r) → unended e ≤ unended d
+notes_weigh d r e rows events room is = let same : unended e ≡ unended r = ap unended is in let even : unended r ≡ unended d = ap unended room in omega (arith, same, even)
 
 -- ---- what a view keeps
 
@@ -94,6 +102,7 @@ pub record GoesOn (line ctrl : ℕ) (a c : Core) (d e : DeskView) (k l : KeeperV
   pub stands : StandsTo l c.view
   pub left : c.view.left + n ≡ most
   pub all : most ≡ a.view.left
+  pub weight : unended e ≤ unended d
   pub again : (near : Near) (answers : List Answer) → (m : ℕ) × Again m (RemovalStays (means near answers line) ctrl) (stand a d k) (stand c e l)
 
 -- One begin of a removal, and what was noted of it.
@@ -126,6 +135,10 @@ leaves line ctrl a c b d e f r k l o m n most lane answer g h =
     let x = stays_leaves c b e r f (entry_marked answer) (map (event.At line) (marked_said answer)) m (removes_stays o m c b ctrl _ answer h.removes.to g.sits.closed) g.sits h.room h.desk h.removes.stands in
     record { sits = x.sits; kept = kept_on a c b g.kept x.kept; stands = x.stands }
 
+-- no request came
+pub weighs : (line ctrl : ℕ) (a c b : Core) (d e f r : DeskView) (k l o m : KeeperView) (n most lane : ℕ) (answer : Result RowEntry RemoveError) → GoesOn line ctrl a c d e k l n most → Notes line ctrl c b e f r l o m lane answer → unended f ≤ unended d
+weighs line ctrl a c b d e f r k l o m n most lane answer g h = let same : unended f ≡ unended e = ap unended (desk_so h) in omega (arith, same, g.weight)
+
 pub does : (line ctrl : ℕ) (a c b : Core) (d e f r : DeskView) (k l o m : KeeperView) (n most lane : ℕ) (answer : Result RowEntry RemoveError) → GoesOn line ctrl a c d e k l n most → Notes line ctrl c b e f r l o m lane answer → is_begun answer ≡ true → n < most
     → (near : Near) (answers : List Answer) → CallTo (means near answers line) (remove ctrl) (stand a d k) (stand b f m)
 does line ctrl a c b d e f r k l o m n most lane answer g h begun below near answers =
@@ -147,6 +160,7 @@ goes_on line ctrl a c b d e f r k l o m n most lane answer g h begun below =
       sits = x.sits;
       kept = x.kept;
       stands = x.stands;
+      weight = weighs line ctrl a c b d e f r k l o m n most lane answer g h;
       left = omega (arith, used, g.left, below);
       all = g.all;
       again = λ near answers.
@@ -161,3 +175,14 @@ stops line ctrl a c d e k l n most g all near answers =
     let w = means near answers line in
     let short : c.view.left < 1 = omega (arith, g.left, all) in
     after_again again.0 0 (RemovalStays w ctrl) (IsShort 1) (stand a d k) (stand c e l) (stand c e l) again.1 (short, refl)
+
+-- where memory runs out the keeper may have more room
+pub makes_room : (c : Core) (e r : DeskView) (k l : KeeperView) → r ≡ e → l ≡ record k { spare = l.spare } → MakesRoom (stand c e k) (stand c r l)
+makes_room c e r k l room is = record { room = l.spare; same = λ i. stand c (room i) (is i) }
+
+-- and a removal breaks off
+pub breaks : (line ctrl : ℕ) (a c : Core) (d e r : DeskView) (k l o : KeeperView) (n most : ℕ) → GoesOn line ctrl a c d e k l n most → r ≡ e → o ≡ record l { spare = o.spare }
+    → (near : Near) (answers : List Answer) → (j : ℕ) × After j (RemovalStays (means near answers line) ctrl) MakesRoom (stand a d k) (stand c r o)
+breaks line ctrl a c d e r k l o n most g room is near answers =
+    let again = g.again near answers in
+    after_again again.0 0 (RemovalStays (means near answers line) ctrl) MakesRoom (stand a d k) (stand c e l) (stand c r o) again.1 (makes_room c e r l o room is)

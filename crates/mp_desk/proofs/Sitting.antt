@@ -1,9 +1,10 @@
 -- How a pass sits at its desk after a call.
-use Rattle.std.proofs.Common.{◌≡◌, ℕ, zero, suc, Bool, true, false, ◌==◌, ◌&&◌, List, [], ◌∷◌, ◌++◌, map, append-nil, Some, None, option_map, inl, inr, refl, sym, ap, ◌∙◌, subst, eq-eqb}
+use Rattle.std.proofs.Common.{◌≡◌, ℕ, zero, suc, Bool, true, false, ◌==◌, ◌&&◌, ◌+◌, ◌≤◌, List, [], ◌∷◌, ◌++◌, arith, map, append-nil, Some, None, option_map, inl, inr, refl, sym, ap, ◌∙◌, subst, eq-eqb}
 use Rattle.std.specs.List.{last_or, list_any, AllByRecursion}
 use Rattle.std.specs.Prelude.{OnOk, Result, Ok, Err}
 use Rattle.std.specs.Result.{is_err}
 use Rattle.std.proofs.lemmas.Bool.{cases_Bool}
+use Rattle.std.proofs.lemmas.List.{length-append}
 use Rattle.mp_words.specs.declared.flight.Flight.{Flight}
 use Rattle.mp_words.specs.declared.near.Near.{Near}
 use Rattle.mp_words.specs.declared.note.Note.{Note}
@@ -35,11 +36,12 @@ use Rattle.mp_change.specs.Changes.{ChangesPath, end_view}
 use Rattle.mp_change.specs.Clears.{clears_view, cleared_upto}
 use Rattle.mp_change.specs.Pending.{MarksPending, DropsCurrent, dropped, pending_view}
 use Rattle.mp_submit.specs.declared.submit.Submitted.{Submitted}
+use Rattle.mp_submit.specs.declared.submit.Submitted.TheVariants as submitted
 use Rattle.mp_submit.specs.Finishes.{FailsOver}
 use Rattle.mp_submit.specs.Submits.{Submits, answer_of, flights_of}
 use Rattle.mp_record.specs.declared.event.Event.{Event}
 use Rattle.mp_desk.specs.declared.flying.Flying.{Flying}
-use Rattle.mp_desk.specs.DeskView.{DeskView, noting, placing, flying_with}
+use Rattle.mp_desk.specs.DeskView.{DeskView, noting, placing, flying_with, unended}
 use Rattle.mp_desk.specs.Calls.{Sits, KeepsPass, IsAloft, IsWaiting}
 use Rattle.mp_desk.specs.Desks.{Leaves, placed}
 use Rattle.mp_desk.proofs.LastTry.{last_added}
@@ -245,6 +247,15 @@ pub submit_puts : (lane : ℕ) (before after : RequestView) (answer : Submitted)
     → e ≡ placing lane after made.end (noting told d)
 submit_puts lane before after answer made told d r n e room noted puts answers same =
     puts ∙ (λ i. placed (answers i) after (noted i)) ∙ placed_so lane before.id after made.end (noting told r) (sym same) ∙ ap (λ (z : DeskView). placing lane after made.end (noting told z)) room
+
+-- a request that was put somewhere is at most one more
+pub placed_weighs : (answer : Submitted) (after : RequestView) (d r : DeskView) (events : List Event) (e : DeskView) → r ≡ d → e ≡ placed answer after (record r { events = events }) → unended e ≤ unended d + 1
+placed_weighs answer after d r events e room is = let same : unended e ≡ unended (placed answer after (record r { events = events })) = ap unended is in let even : unended r ≡ unended d = ap unended room in let more = one_more answer in omega (arith, same, even, more)
+  where
+    one_more : (answer : Submitted) → unended (placed answer after (record r { events = events })) ≤ unended r + 1
+    one_more (submitted.Sent f) = omega (arith, length-append r.flying (record { flight = f; request = after } ∷ []))
+    one_more submitted.Listed = omega (arith, length-append r.out (after ∷ []))
+    one_more submitted.Failed = omega arith
 
 -- what holds where all went well holds where nothing failed
 pub ok_so : {T E X : Type 0} (r : Result T E) (b : Bool) → b ≡ is_err r → b ≡ false → OnOk r X → X

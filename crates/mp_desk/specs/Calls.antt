@@ -251,6 +251,31 @@ StopTo w (remove ctrl) p q = (n : ℕ) × After n (RemovalStays w ctrl) (IsShort
 StopTo w (set_policy policy) p q = IsShort 1 p q
 StopTo w reap p q = IsShort 16 p q
 
+-- nothing is done
+abbrev pub DoesNothing : Stand → Stand → Type 0
+DoesNothing p q = q ≡ p
+
+-- nothing is done, but the keeper may have more room
+pub record MakesRoom (p q : Stand) : Type 0 where
+  pub room : ℕ
+  pub same : q ≡ record p { keeper = with_room room p.keeper }
+
+-- A flight that was taken from the desk ends with its lane, for which memory ran out.
+pub record FlightDrops (f : Flying) (p q : Stand) : Type 0 where
+  pub lands : Lands p.core q.core f.flight
+  pub desk : q.desk ≡ p.desk
+  pub keeper : q.keeper ≡ p.keeper
+
+-- What a call does for which memory ran out: its tries that met another change of the row.
+abbrev pub BreakTo : Means → DeskCall → Stand → Stand → Type 0
+BreakTo w (submit request) p q = DoesNothing p q
+BreakTo w (finish flying) p q = (n : ℕ) × Taking flying (After n (FlightStays w flying) (FlightDrops flying)) p q
+BreakTo w (change ctrl op) p q = (n : ℕ) × After n (ChangeStays w ctrl op) DoesNothing p q
+BreakTo w (add gift) p q = MakesRoom p q
+BreakTo w (remove ctrl) p q = (n : ℕ) × After n (RemovalStays w ctrl) MakesRoom p q
+BreakTo w (set_policy policy) p q = MakesRoom p q
+BreakTo w reap p q = MakesRoom p q
+
 -- The call is one that every lane makes.
 abbrev pub IsLaneCall : DeskCall → Type 0
 IsLaneCall (submit request) = Unit {0}
@@ -275,6 +300,22 @@ pub record StopsTo (w : Means) (calls : List DeskCall) (p q : Stand) : Type 0 wh
   pub mid : Stand
   pub done : CallsTo w before p mid
   pub stops : StopTo w stopped mid q
+
+-- What these calls do of which one breaks off for want of memory: those before it are done, and none behind it.
+pub record BreaksTo (w : Means) (calls : List DeskCall) (p q : Stand) : Type 0 where
+  pub before : List DeskCall
+  pub broken : DeskCall
+  pub behind : List DeskCall
+  pub split : calls ≡ before ++ broken ∷ behind
+  pub mid : Stand
+  pub done : CallsTo w before p mid
+  pub breaks : BreakTo w broken mid q
+
+-- What was done where memory ran out. Another end tells nothing.
+abbrev pub IfWant : {T : Type 0} → Result T Halt → Type 0 → Type 0
+IfWant (Ok x) Broken = Unit {0}
+IfWant (Err halt.Spent) Broken = Unit {0}
+IfWant (Err halt.NoMemory) Broken = Broken
 
 -- What was done, if it ended well, and what was done where units were short. Want of memory tells nothing.
 abbrev pub Does : {T : Type 0} → Result T Halt → Type 0 → Type 0 → Type 0

@@ -1,5 +1,5 @@
 -- A desk as clauses see it.
-use Rattle.std.specs.Prelude.{ℕ, not, ◌==◌, List, [], ◌∷◌, ◌++◌, filter, Option, None, Some}
+use Rattle.std.specs.Prelude.{ℕ, ◌+◌, not, ◌==◌, List, [], ◌∷◌, ◌++◌, filter, length, Option, None, Some}
 use Rattle.mp_words.specs.declared.flight.Flight.{Flight}
 use Rattle.mp_words.specs.declared.entry.RowEntry.{RowEntry}
 use Rattle.mp_words.specs.declared.trying.Back.{Back}
@@ -17,6 +17,10 @@ pub record DeskView : Type 0 where
   pub ended : List RequestView
   pub events : List Event
   pub rows : List RowEntry
+
+-- how many requests the desk has that haven't ended: those on their way, and those to be listed
+abbrev pub unended : DeskView → ℕ
+unended d = length d.flying + length d.out
 
 -- the desk after these events were noted
 abbrev pub noting : List Event → DeskView → DeskView

@@ -9,7 +9,7 @@ use Rattle.mp_desk.specs.declared.desk.Desk.{Desk}
 use Rattle.mp_desk.specs.declared.flying.Flying.{Flying}
 use Rattle.mp_desk.specs.declared.halt.Halt.{Halt}
 use Rattle.mp_desk.specs.DeskView.{DeskView}
-use Rattle.mp_desk.specs.Calls.{Means, Stand, DeskCall, CallTo, CallsTo, StopTo, StopsTo, Does, Sits, KeepsPass, TakesFlying, After, FlightStays, FlightEnds, FlightFalls}
+use Rattle.mp_desk.specs.Calls.{Means, Stand, DeskCall, CallTo, CallsTo, StopTo, StopsTo, BreakTo, BreaksTo, Does, IfWant, Sits, KeepsPass, TakesFlying, After, FlightStays, FlightEnds, FlightFalls, FlightDrops}
 
 -- what a desk has
 abbrev pub desk_of : Desk → DeskView
@@ -45,6 +45,10 @@ DoesCalls result w cs a b d e = (k : KeeperView) → Does result (CallsTo w cs (
 abbrev pub KeeperDoes : {T : Type 0} → Result T Halt → Means → DeskCall → Stand → Stand → Type 0
 KeeperDoes result w c p q = Does result (CallTo w c p q) (StopTo w c p q)
 
+-- A keeper that stands to the steps before a call stands to them after it.
+abbrev pub KeepsStand : Core → Core → Type 0
+KeepsStand a b = (k : KeeperView) → StandsTo k a.view → StandsTo k b.view
+
 -- However a call ends, the pass sits at its desk then.
 pub record Leaves (a b : Core) (e : DeskView) : Type 0 where
   pub sits : Sits b e
@@ -67,3 +71,19 @@ abbrev pub DoesFlight : {T : Type 0} → Result T Halt → Means → Flying → 
 DoesFlight result w f a b d e = (k : KeeperView) → Does result
     ((1 ≤ a.view.left) × (n : ℕ) × After n (FlightStays w f) (FlightEnds w f) (stand a d k) (stand b e k))
     ((n : ℕ) × After n (FlightStays w f) (FlightFalls f) (stand a d k) (stand b e k))
+
+-- What a call did for which memory ran out, of a lane that steps beside a keeper.
+abbrev pub BreaksCall : {T : Type 0} → Result T Halt → Means → DeskCall → Core → Core → DeskView → DeskView → Type 0
+BreaksCall result w c a b d e = (k : KeeperView) → IfWant result (BreakTo w c (stand a d k) (stand b e k))
+
+-- What calls did of which one broke off for want of memory, of a lane that steps beside a keeper.
+abbrev pub BreaksCalls : {T : Type 0} → Result T Halt → Means → List DeskCall → Core → Core → DeskView → DeskView → Type 0
+BreaksCalls result w cs a b d e = (k : KeeperView) → IfWant result (BreaksTo w cs (stand a d k) (stand b e k))
+
+-- What a call of the keeper's did for which memory ran out.
+abbrev pub KeeperBreaks : {T : Type 0} → Result T Halt → Means → DeskCall → Stand → Stand → Type 0
+KeeperBreaks result w c p q = IfWant result (BreakTo w c p q)
+
+-- What the finish of a flight did that was taken from the desk, where memory ran out.
+abbrev pub BreaksFlight : {T : Type 0} → Result T Halt → Means → Flying → Core → Core → DeskView → DeskView → Type 0
+BreaksFlight result w f a b d e = (k : KeeperView) → IfWant result ((n : ℕ) × After n (FlightStays w f) (FlightDrops f) (stand a d k) (stand b e k))

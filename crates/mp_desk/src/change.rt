@@ -1,13 +1,13 @@
 //! A row change at a desk.
 
-ghost use Rattle.std.specs.Prelude.{◌≡◌, ◌∷◌, [], List, true, map};
+ghost use Rattle.std.specs.Prelude.{◌≡◌, ◌≤◌, ◌∷◌, [], List, true, map};
 ghost use Rattle.mp_words.specs.declared.answers.Answer.{Answer};
 ghost use Rattle.mp_words.specs.declared.near.Near.{Near};
 ghost use Rattle.mp_record.specs.declared.event.Event.TheVariants as event;
 ghost use Rattle.mp_change.specs.Changes.{IsLineOp};
 ghost use Rattle.mp_desk.specs.Calls.{change, Sits};
-ghost use Rattle.mp_desk.specs.DeskView.{entering, noting};
-ghost use Rattle.mp_desk.specs.Desks.{desk_of, DoesCall, HasRoom, Leaves};
+ghost use Rattle.mp_desk.specs.DeskView.{entering, noting, unended};
+ghost use Rattle.mp_desk.specs.Desks.{desk_of, BreaksCall, DoesCall, HasRoom, KeepsStand, Leaves};
 ghost use Rattle.mp_desk.specs.Says.{entry_in, is_over, said_of, section_of};
 
 use crate::desk::Desk;
@@ -38,7 +38,10 @@ impl Desk {
         requires sits { Sits (S.core steps.old) (desk_of self.old) }
         requires op { IsLineOp op.now }
         ensures does { (near : Near) (answers : List Answer) → DoesCall result (record { near = near; answers = answers; line = line }) (change ctrl op.now) (S.core steps.old) (S.core steps.new) (desk_of self.old) (desk_of self.new) }
+        ensures breaks { (near : Near) (answers : List Answer) → BreaksCall result (record { near = near; answers = answers; line = line }) (change ctrl op.now) (S.core steps.old) (S.core steps.new) (desk_of self.old) (desk_of self.new) }
         ensures leaves { Leaves (S.core steps.old) (S.core steps.new) (desk_of self.new) }
+        ensures stands { KeepsStand (S.core steps.old) (S.core steps.new) }
+        ensures weight { unended (desk_of self.new) ≤ unended (desk_of self.old) }
     {
         for _ in 0..steps.left() {
             if self.reserve().is_err() {

@@ -1,8 +1,7 @@
 //! The end of all flights at a desk.
 
-ghost use Rattle.std.specs.Prelude.{◌≡◌};
 ghost use Rattle.mp_desk.specs.Calls.{EndsAll, Sits};
-ghost use Rattle.mp_desk.specs.Desks.{desk_of, Leaves};
+ghost use Rattle.mp_desk.specs.Desks.{desk_of, KeepsStand, Leaves};
 
 use crate::desk::Desk;
 use mp_core::steps::Steps;
@@ -14,6 +13,7 @@ impl Desk {
         requires sits { Sits (S.core steps.old) (desk_of self.old) }
         ensures ends { EndsAll (S.core steps.old) (S.core steps.new) (desk_of self.old) (desk_of self.new) }
         ensures leaves { Leaves (S.core steps.old) (S.core steps.new) (desk_of self.new) }
+        ensures stands { KeepsStand (S.core steps.old) (S.core steps.new) }
     {
         for _ in 0..self.flights.count(&None) {
             match self.flights.take(&None) {

@@ -1,12 +1,12 @@
 //! The finish of flights at a desk.
 
-ghost use Rattle.std.specs.Prelude.{◌≡◌, ◌≤◌, ◌++◌, ℕ, None, Some, map};
+ghost use Rattle.std.specs.Prelude.{◌≡◌, ◌≤◌, ◌+◌, ◌++◌, ℕ, None, Some, map};
 ghost use Rattle.std.specs.List.{last_or};
 ghost use Rattle.mp_words.specs.declared.near.Near.{Near};
 ghost use Rattle.mp_words.specs.declared.trying.Try.{Try};
 ghost use Rattle.mp_desk.specs.Calls.{finish, Sits};
-ghost use Rattle.mp_desk.specs.DeskView.{entering, landing, noting};
-ghost use Rattle.mp_desk.specs.Desks.{desk_of, DoesCalls, DoesFlight, HasRoom, IsTaken, Leaves};
+ghost use Rattle.mp_desk.specs.DeskView.{entering, landing, noting, unended};
+ghost use Rattle.mp_desk.specs.Desks.{desk_of, BreaksCalls, BreaksFlight, DoesCalls, DoesFlight, HasRoom, IsTaken, KeepsStand, Leaves};
 ghost use Rattle.mp_desk.specs.Indexed.{flying_of};
 ghost use Rattle.mp_desk.specs.Says.{back_in, end_event, entries_back, noted_before};
 
@@ -43,7 +43,10 @@ impl Desk {
     ) -> Result<(), Halt>
         requires sits { Sits (S.core steps.old) (desk_of self.old) }
         ensures does { (near : Near) (line : ℕ) → DoesCalls result (record { near = near; answers = answers.now; line = line }) (map finish (flying_of named.now self.old.flights.flying)) (S.core steps.old) (S.core steps.new) (desk_of self.old) (desk_of self.new) }
+        ensures breaks { (near : Near) (line : ℕ) → BreaksCalls result (record { near = near; answers = answers.now; line = line }) (map finish (flying_of named.now self.old.flights.flying)) (S.core steps.old) (S.core steps.new) (desk_of self.old) (desk_of self.new) }
         ensures leaves { Leaves (S.core steps.old) (S.core steps.new) (desk_of self.new) }
+        ensures stands { KeepsStand (S.core steps.old) (S.core steps.new) }
+        ensures weight { unended (desk_of self.new) ≤ unended (desk_of self.old) }
     {
         for _ in 0..self.flights.count(named) {
             match self.flights.take(named) {
@@ -67,7 +70,10 @@ impl Desk {
     ) -> Result<(), Halt>
         requires taken { IsTaken flying (S.core steps.old) (desk_of self.old) }
         ensures does { (near : Near) (line : ℕ) → DoesFlight result (record { near = near; answers = answers.now; line = line }) flying (S.core steps.old) (S.core steps.new) (desk_of self.old) (desk_of self.new) }
+        ensures breaks { (near : Near) (line : ℕ) → BreaksFlight result (record { near = near; answers = answers.now; line = line }) flying (S.core steps.old) (S.core steps.new) (desk_of self.old) (desk_of self.new) }
         ensures leaves { Leaves (S.core steps.old) (S.core steps.new) (desk_of self.new) }
+        ensures stands { KeepsStand (S.core steps.old) (S.core steps.new) }
+        ensures weight { unended (desk_of self.new) ≤ unended (desk_of self.old) + 1 }
     {
         let Flying {
             flight,

@@ -8,8 +8,8 @@ ghost use Rattle.mp_record.specs.declared.event.Event.TheVariants as event;
 ghost use Rattle.mp_keep.specs.Keeper.{StandsTo};
 ghost use Rattle.mp_keep.specs.Walks as walk;
 ghost use Rattle.mp_desk.specs.Calls.{add, reap, remove, set_policy, Sits};
-ghost use Rattle.mp_desk.specs.DeskView.{entering, noting};
-ghost use Rattle.mp_desk.specs.Desks.{desk_of, stand, HasRoom, KeeperDoes, KeeperLeaves};
+ghost use Rattle.mp_desk.specs.DeskView.{entering, noting, unended};
+ghost use Rattle.mp_desk.specs.Desks.{desk_of, stand, HasRoom, KeeperBreaks, KeeperDoes, KeeperLeaves};
 ghost use Rattle.mp_desk.specs.Says.{added_said, entry_added, entry_marked, is_begun, marked_said, reaped_said};
 
 use crate::desk::Desk;
@@ -47,7 +47,9 @@ impl Desk {
         requires stands { StandsTo keeper.old (S.core steps.old).view }
         requires state { IsState gift.state }
         ensures does { (near : Near) (answers : List Answer) → KeeperDoes result (record { near = near; answers = answers; line = line }) (add gift) (stand (S.core steps.old) (desk_of self.old) keeper.old) (stand (S.core steps.new) (desk_of self.new) keeper.new) }
+        ensures breaks { (near : Near) (answers : List Answer) → KeeperBreaks result (record { near = near; answers = answers; line = line }) (add gift) (stand (S.core steps.old) (desk_of self.old) keeper.old) (stand (S.core steps.new) (desk_of self.new) keeper.new) }
         ensures leaves { KeeperLeaves (S.core steps.old) (S.core steps.new) (desk_of self.new) keeper.new }
+        ensures weight { unended (desk_of self.new) ≤ unended (desk_of self.old) }
     {
         if !can_pay(steps, 2) {
             return Err(Halt::Spent);
@@ -81,7 +83,9 @@ impl Desk {
         requires sits { Sits (S.core steps.old) (desk_of self.old) }
         requires stands { StandsTo keeper.old (S.core steps.old).view }
         ensures does { (near : Near) (answers : List Answer) → KeeperDoes result (record { near = near; answers = answers; line = line }) (remove ctrl) (stand (S.core steps.old) (desk_of self.old) keeper.old) (stand (S.core steps.new) (desk_of self.new) keeper.new) }
+        ensures breaks { (near : Near) (answers : List Answer) → KeeperBreaks result (record { near = near; answers = answers; line = line }) (remove ctrl) (stand (S.core steps.old) (desk_of self.old) keeper.old) (stand (S.core steps.new) (desk_of self.new) keeper.new) }
         ensures leaves { KeeperLeaves (S.core steps.old) (S.core steps.new) (desk_of self.new) keeper.new }
+        ensures weight { unended (desk_of self.new) ≤ unended (desk_of self.old) }
     {
         for _ in 0..steps.left() {
             if self.reserve_with(keeper).is_err() {
@@ -115,7 +119,9 @@ impl Desk {
         requires sits { Sits (S.core steps.old) (desk_of self.old) }
         requires stands { StandsTo keeper.old (S.core steps.old).view }
         ensures does { (near : Near) (answers : List Answer) → KeeperDoes result (record { near = near; answers = answers; line = line }) (set_policy policy) (stand (S.core steps.old) (desk_of self.old) keeper.old) (stand (S.core steps.new) (desk_of self.new) keeper.new) }
+        ensures breaks { (near : Near) (answers : List Answer) → KeeperBreaks result (record { near = near; answers = answers; line = line }) (set_policy policy) (stand (S.core steps.old) (desk_of self.old) keeper.old) (stand (S.core steps.new) (desk_of self.new) keeper.new) }
         ensures leaves { KeeperLeaves (S.core steps.old) (S.core steps.new) (desk_of self.new) keeper.new }
+        ensures weight { unended (desk_of self.new) ≤ unended (desk_of self.old) }
     {
         if !can_pay(steps, 1) {
             return Err(Halt::Spent);
@@ -148,7 +154,9 @@ impl Desk {
         requires sits { Sits (S.core steps.old) (desk_of self.old) }
         requires stands { StandsTo keeper.old (S.core steps.old).view }
         ensures does { (near : Near) (answers : List Answer) → KeeperDoes result (record { near = near; answers = answers; line = line }) reap (stand (S.core steps.old) (desk_of self.old) keeper.old) (stand (S.core steps.new) (desk_of self.new) keeper.new) }
+        ensures breaks { (near : Near) (answers : List Answer) → KeeperBreaks result (record { near = near; answers = answers; line = line }) reap (stand (S.core steps.old) (desk_of self.old) keeper.old) (stand (S.core steps.new) (desk_of self.new) keeper.new) }
         ensures leaves { KeeperLeaves (S.core steps.old) (S.core steps.new) (desk_of self.new) keeper.new }
+        ensures weight { unended (desk_of self.new) ≤ unended (desk_of self.old) }
     {
         if !can_pay(steps, 16) {
             return Err(Halt::Spent);

@@ -3,7 +3,7 @@
 ghost use Rattle.std.specs.Prelude.{List};
 ghost use Rattle.std.specs.List.{AllByRecursion};
 ghost use Rattle.mp_keep.specs.Keeper.{KeeperView, StandsTo};
-ghost use Rattle.mp_desk.specs.Calls.{CallTo, CallsTo, DeskCall, EndsAll, IsLaneCall, Means, Stand, StopsTo};
+ghost use Rattle.mp_desk.specs.Calls.{BreaksTo, CallTo, CallsTo, DeskCall, EndsAll, IsLaneCall, Means, Stand, StopsTo};
 ghost use Rattle.mp_desk.specs.Gains.{Gains, UsesSections};
 
 /// A submit, a finish and a row change leave a keeper standing to its steps, whatever other lanes do.
@@ -16,6 +16,7 @@ pub fn a_lanes_call_leaves_the_keeper()
 pub fn calls_note_what_the_pass_gains()
     ensures done { (w : Means) (calls : List DeskCall) (p q : Stand) → CallsTo w calls p q → Gains p q }
     ensures stopped { (w : Means) (calls : List DeskCall) (p q : Stand) → StopsTo w calls p q → Gains p q }
+    ensures broken { (w : Means) (calls : List DeskCall) (p q : Stand) → BreaksTo w calls p q → Gains p q }
     ensures ended { (p q : Stand) → EndsAll p.core q.core p.desk q.desk → Gains p q }
 {}
 
@@ -23,4 +24,5 @@ pub fn calls_note_what_the_pass_gains()
 pub fn a_lanes_calls_use_a_unit_for_each_section()
     ensures done { (w : Means) (calls : List DeskCall) (p q : Stand) → AllByRecursion IsLaneCall calls → CallsTo w calls p q → UsesSections p q }
     ensures stopped { (w : Means) (calls : List DeskCall) (p q : Stand) → AllByRecursion IsLaneCall calls → StopsTo w calls p q → UsesSections p q }
+    ensures broken { (w : Means) (calls : List DeskCall) (p q : Stand) → AllByRecursion IsLaneCall calls → BreaksTo w calls p q → UsesSections p q }
 {}

@@ -1,11 +1,12 @@
 //! A submit at a desk.
 
-ghost use Rattle.std.specs.Prelude.{◌≡◌, ◌≤◌, ◌++◌, ◌∷◌, ℕ, [], List, None, Some, map};
+ghost use Rattle.std.specs.Prelude.{◌≡◌, ◌≤◌, ◌+◌, ◌++◌, ◌∷◌, ℕ, [], List, None, Some, length, map, OnErr};
 ghost use Rattle.std.specs.List.{last_or, AllByRecursion};
 ghost use Rattle.mp_words.specs.declared.answers.Answer.{Answer};
 ghost use Rattle.mp_words.specs.declared.trying.Try.{Try};
 ghost use Rattle.mp_desk.specs.Calls.{submit, IsWaiting, Sits};
-ghost use Rattle.mp_desk.specs.Desks.{desk_of, placed, DoesCall, DoesCalls, Leaves};
+ghost use Rattle.mp_desk.specs.Desks.{desk_of, placed, BreaksCall, BreaksCalls, DoesCall, DoesCalls, KeepsStand, Leaves};
+ghost use Rattle.mp_desk.specs.DeskView.{unended};
 ghost use Rattle.mp_desk.specs.Says.{section, try_event};
 
 use crate::aloft::Aloft;
@@ -40,7 +41,11 @@ impl Desk {
         requires sits { Sits (S.core steps.old) (desk_of self.old) }
         requires waiting { IsWaiting request }
         ensures does { (answers : List Answer) (line : ℕ) → DoesCall result (record { near = near.now; answers = answers; line = line }) (submit request) (S.core steps.old) (S.core steps.new) (desk_of self.old) (desk_of self.new) }
+        ensures breaks { (answers : List Answer) (line : ℕ) → BreaksCall result (record { near = near.now; answers = answers; line = line }) (submit request) (S.core steps.old) (S.core steps.new) (desk_of self.old) (desk_of self.new) }
         ensures leaves { Leaves (S.core steps.old) (S.core steps.new) (desk_of self.new) }
+        ensures stands { KeepsStand (S.core steps.old) (S.core steps.new) }
+        ensures weight { unended (desk_of self.new) ≤ unended (desk_of self.old) + 1 }
+        ensures fails { OnErr result ((S.core steps.new ≡ S.core steps.old) × (desk_of self.new ≡ desk_of self.old)) }
     {
         if !can_pay(steps, 1) {
             return Err(Halt::Spent);
@@ -69,7 +74,10 @@ impl Desk {
         requires sits { Sits (S.core steps.old) (desk_of self.old) }
         requires waiting { AllByRecursion IsWaiting requests.items }
         ensures does { (answers : List Answer) (line : ℕ) → DoesCalls result (record { near = near.now; answers = answers; line = line }) (map submit requests.items) (S.core steps.old) (S.core steps.new) (desk_of self.old) (desk_of self.new) }
+        ensures breaks { (answers : List Answer) (line : ℕ) → BreaksCalls result (record { near = near.now; answers = answers; line = line }) (map submit requests.items) (S.core steps.old) (S.core steps.new) (desk_of self.old) (desk_of self.new) }
         ensures leaves { Leaves (S.core steps.old) (S.core steps.new) (desk_of self.new) }
+        ensures stands { KeepsStand (S.core steps.old) (S.core steps.new) }
+        ensures weight { unended (desk_of self.new) ≤ unended (desk_of self.old) + length requests.items }
     {
         for request in requests {
             match self.submit(steps, gate, near, request) {

@@ -1,7 +1,8 @@
 -- What is proved of lanes.
-pub mod KeeperStays
+pub mod LaneCalls
 pub mod NoPage
 pub mod OneCall
 pub mod Rests
 pub mod StepGains
 pub mod Stepping
+pub mod Weighs

@@ -1,20 +1,24 @@
 -- What a step of a lane did.
-use Rattle.std.proofs.Common.{◌≡◌, ℕ, true, false, Bool, List, [], ◌∷◌, map, refl, sym, ap, ◌∙◌, subst, if◌then◌else◌}
-use Rattle.std.specs.Prelude.{Result, Ok, Err}
+use Rattle.std.proofs.Common.{◌≡◌, ℕ, true, false, Bool, List, [], ◌∷◌, map, refl, sym, ap, ◌∙◌, subst}
+use Rattle.std.specs.Prelude.{Result, Ok, Err, IfOk, OnErr}
 use Rattle.mp_words.specs.RequestView.{RequestView}
 use Rattle.mp_record.specs.declared.event.Event.TheVariants as event
 use Rattle.mp_script.specs.declared.script.Numbered1.{Numbered1}
 use Rattle.mp_core.specs.Core.{Core}
-use Rattle.mp_keep.specs.Keeper.{KeeperView}
+use Rattle.mp_keep.specs.Keeper.{KeeperView, StandsTo}
 use Rattle.mp_desk.specs.DeskView.{DeskView, noting}
-use Rattle.mp_desk.specs.Calls.{CallsTo, Does, EndsAll, Stand, StopsTo}
+use Rattle.mp_desk.specs.Calls.{CallsTo, EndsAll, Stand, StopsTo}
 use Rattle.mp_desk.specs.declared.halt.Halt.{Halt}
 use Rattle.mp_desk.specs.declared.halt.Halt.TheVariants as halt
 use Rattle.mp_desk.specs.Desks.{stand}
 use Rattle.mp_lane.specs.declared.wants.Wants.{Wants}
 use Rattle.mp_lane.specs.LaneView.{LaneView, wants_next, wants_of}
 use Rattle.mp_lane.specs.Lines.{Reads, means_of, start_of}
-use Rattle.mp_lane.specs.Steps.{ComesToEnd, IsSpent, Runs, RunsOn, behind, has_line, line_of, start_at}
+use Rattle.mp_lane.specs.declared.error.LaneError.{LaneError}
+use Rattle.mp_lane.specs.declared.error.LaneError.TheVariants as error
+use Rattle.mp_lane.specs.declared.stepped.Stepped.{Stepped}
+use Rattle.mp_lane.specs.declared.stepped.Stepped.TheVariants.{Ran, Ended, Spent}
+use Rattle.mp_lane.specs.Steps.{BreaksOff, ComesToEnd, Fails, IsBroken, IsSpent, Runs, RunsOn, Settles, StandsIfOn, StepTo, Stops, Told, behind, has_line, line_of, start_at}
 
 split : (rest : List Numbered1) → has_line rest ≡ true → (l : Numbered1) × (rest ≡ l ∷ behind rest)
 split [] has = absurd cc
@@ -68,6 +72,52 @@ spent i v r w p b c k is_r is_w stops ends = record {
   lane = is_w ∙ (λ j. record (is_r j) { list = []; listed = false; over = true; desk = w.desk });
 }
 
+-- memory ran out
+fails : (v r w : LaneView) (b c : Core) (k : KeeperView) → r ≡ record v { list = []; desk = r.desk } → Stops r w b c → Fails v w (stand c w.desk k)
+fails v r w b c k is_r h = record {
+  over = ap (λ (z : LaneView). z.over) h.lane;
+  list = ap (λ (z : LaneView). z.list) h.lane;
+  flying = ap (λ (d : DeskView). d.flying) h.ends.desk;
+  id = ap (λ (z : LaneView). z.id) h.lane ∙ ap (λ (z : LaneView). z.id) is_r;
+  keeper = ap (λ (z : LaneView). z.keeper) h.lane ∙ ap (λ (z : LaneView). z.keeper) is_r;
+  rest = ap (λ (z : LaneView). z.rest) h.lane ∙ ap (λ (z : LaneView). z.rest) is_r;
+  listed = ap (λ (z : LaneView). z.listed) h.lane;
+}
+
+-- what a step did whose next line was run so, or its end
+pub settles_to : (ran : Result Bool Halt) (result : Result Stepped LaneError) (i : Reads) (v r w : LaneView) (p : Stand) (b c : Core) (k : KeeperView) → r ≡ record v { list = []; desk = r.desk } → IfOk ran (λ x. x ≡ has_line v.rest)
+    → Runs ran i (line_of v) (start_at i v) p (stand b r.desk k) → Settles ran result r w b c → StepTo result i v w p (stand c w.desk k)
+settles_to (Ok true) result i v r w p b c k is_r has runs h =
+    subst (λ z. StepTo z i v w p (stand c w.desk k)) (sym h.0) (subst (λ (z : Core). RunsOn i v w p (stand z w.desk k)) (sym h.2) (ran_on i v r w p b k is_r h.1 (sym has) runs))
+settles_to (Ok false) result i v r w p b c k is_r has runs h =
+    subst (λ z. StepTo z i v w p (stand c w.desk k)) (sym h.0) (subst (λ (z : Core). ComesToEnd i v w p (stand z w.desk k)) (sym h.2) (ended i v r w p b k is_r h.1 (sym has) runs))
+settles_to (Err halt.Spent) result i v r w p b c k is_r has runs h =
+    subst (λ z. StepTo z i v w p (stand c w.desk k)) (sym h.0) (spent i v r w p b c k is_r h.1.lane runs h.1.ends)
+settles_to (Err halt.NoMemory) result i v r w p b c k is_r has runs h =
+    subst (λ z. StepTo z i v w p (stand c w.desk k)) (sym h.0) (fails v r w b c k is_r h.1)
+
+-- where memory ran out, what was done before
+pub breaks_to : (ran : Result Bool Halt) (result : Result Stepped LaneError) (i : Reads) (v r w : LaneView) (p : Stand) (b c : Core) (k : KeeperView) → r ≡ record v { list = []; desk = r.desk }
+    → Runs ran i (line_of v) (start_at i v) p (stand b r.desk k) → Settles ran result r w b c → OnErr result (IsBroken i v w p (stand c w.desk k))
+breaks_to (Ok true) result i v r w p b c k is_r runs h = subst (λ z. OnErr z (IsBroken i v w p (stand c w.desk k))) (sym h.0) tt
+breaks_to (Ok false) result i v r w p b c k is_r runs h = subst (λ z. OnErr z (IsBroken i v w p (stand c w.desk k))) (sym h.0) tt
+breaks_to (Err halt.Spent) result i v r w p b c k is_r runs h = subst (λ z. OnErr z (IsBroken i v w p (stand c w.desk k))) (sym h.0) tt
+breaks_to (Err halt.NoMemory) result i v r w p b c k is_r runs h =
+    subst (λ z. OnErr z (IsBroken i v w p (stand c w.desk k))) (sym h.0) (record {
+      mid = stand b r.desk k;
+      breaks = runs;
+      ends = h.1.ends;
+      keeper = refl;
+      lane = h.1.lane ∙ (λ j. record (is_r j) { list = []; listed = false; over = true; desk = w.desk });
+    })
+
+-- the keeper stands to its steps where the lane goes on, since it does however the step ends
+pub stands_on : (result : Result Stepped LaneError) (k : KeeperView) (c : Core) → StandsTo k c.view → IfOk result (λ stepped. StandsIfOn stepped k c)
+stands_on (Ok Ran) k c s = s
+stands_on (Ok Ended) k c s = s
+stands_on (Ok Spent) k c s = tt
+stands_on (Err error.NoMemory) k c s = tt
+
 -- what a lane wants that isn't over and has a next line
 pub wants_so : (v : LaneView) (over listed : Bool) (rest behind : List Numbered1) (l : Numbered1) (answer : Wants) → v.over ≡ over → over ≡ false → v.listed ≡ listed → v.rest ≡ rest → rest ≡ l ∷ behind → answer ≡ wants_next listed (l ∷ behind) → answer ≡ wants_of v
 wants_so v over listed rest behind l answer over_is not_over listed_is rest_is next is =
@@ -82,28 +132,25 @@ runs_at result i v w l rest list a b e k same next listed h =
     (subst (λ (z : List RequestView). Runs result i l.number (start_of i z v.desk.flying l.line) (stand a v.desk k) (stand b e k)) listed h))
 
 -- what stopped did the same, whatever it would have answered
-pub fails_alike : (T U : Type 0) (why : Halt) (Done Stopped : Type 0) → Does {T = T} (Err why) Done Stopped → Does {T = U} (Err why) Done Stopped
-fails_alike T U halt.NoMemory Done Stopped h = tt
-fails_alike T U halt.Spent Done Stopped h = h
-
--- what stopped there
-pub stops_so : {T : Type 0} (result : Result T Halt) (Done Stopped : Type 0) → result ≡ Err halt.Spent → Does result Done Stopped → Stopped
-stops_so result Done Stopped is h = subst (λ r. Does r Done Stopped) is h
+pub fails_alike : (T U : Type 0) (why : Halt) (Done Stopped Broken : Type 0) → Told {T = T} (Err why) Done Stopped Broken → Told {T = U} (Err why) Done Stopped Broken
+fails_alike T U halt.NoMemory Done Stopped Broken h = h
+fails_alike T U halt.Spent Done Stopped Broken h = h
 
 -- what was done there
-pub does_so : {T : Type 0} (result : Result T Halt) (x : T) (Done Stopped : Type 0) → result ≡ Ok x → Does result Done Stopped → Done
-does_so result x Done Stopped is h = subst (λ r. Does r Done Stopped) is h
+pub does_so : {T : Type 0} (result : Result T Halt) (x : T) (Done Stopped Broken : Type 0) → result ≡ Ok x → Told result Done Stopped Broken → Done
+does_so result x Done Stopped Broken is h = subst (λ r. Told r Done Stopped Broken) is h
 
 -- the next line was run
 pub runs_done : {T : Type 0} (result : Result T Halt) (x : T) (i : Reads) (v w : LaneView) (l : Numbered1) (rest : List Numbered1) (list : List RequestView) (a b : Core) (e : DeskView) (k : KeeperView) → v ≡ w → v.rest ≡ l ∷ rest → list ≡ v.list → result ≡ Ok x
     → Runs result i l.number (start_of i list v.desk.flying l.line) (stand a v.desk k) (stand b e k) → CallsTo (means_of i (line_of w)) (start_at i w).calls (begun i w a k) (stand b e k)
 runs_done result x i v w l rest list a b e k same next listed ok h =
-    does_so result x (CallsTo (means_of i (line_of w)) (start_at i w).calls (begun i w a k) (stand b e k)) (StopsTo (means_of i (line_of w)) (start_at i w).calls (begun i w a k) (stand b e k)) ok (runs_at result i v w l rest list a b e k same next listed h)
+    does_so result x (CallsTo (means_of i (line_of w)) (start_at i w).calls (begun i w a k) (stand b e k)) (StopsTo (means_of i (line_of w)) (start_at i w).calls (begun i w a k) (stand b e k)) (BreaksOff i (line_of w) (start_at i w) (stand a w.desk k) (stand b e k)) ok (runs_at result i v w l rest list a b e k same next listed h)
 
 -- the next line stopped, or memory ran out
 pub runs_failed : (U : Type 0) {T : Type 0} (result : Result T Halt) (why : Halt) (i : Reads) (v w : LaneView) (l : Numbered1) (rest : List Numbered1) (list : List RequestView) (a b : Core) (e : DeskView) (k : KeeperView) → v ≡ w → v.rest ≡ l ∷ rest → list ≡ v.list → result ≡ Err why
-    → Runs result i l.number (start_of i list v.desk.flying l.line) (stand a v.desk k) (stand b e k) → Does {T = U} (Err why) (CallsTo (means_of i (line_of w)) (start_at i w).calls (begun i w a k) (stand b e k)) (StopsTo (means_of i (line_of w)) (start_at i w).calls (begun i w a k) (stand b e k))
+    → Runs result i l.number (start_of i list v.desk.flying l.line) (stand a v.desk k) (stand b e k) → Told {T = U} (Err why) (CallsTo (means_of i (line_of w)) (start_at i w).calls (begun i w a k) (stand b e k)) (StopsTo (means_of i (line_of w)) (start_at i w).calls (begun i w a k) (stand b e k)) (BreaksOff i (line_of w) (start_at i w) (stand a w.desk k) (stand b e k))
 runs_failed U {T = T} result why i v w l rest list a b e k same next listed failed h =
     let Done = CallsTo (means_of i (line_of w)) (start_at i w).calls (begun i w a k) (stand b e k) in
     let Stopped = StopsTo (means_of i (line_of w)) (start_at i w).calls (begun i w a k) (stand b e k) in
-    fails_alike T U why Done Stopped (subst (λ r. Does r Done Stopped) failed (runs_at result i v w l rest list a b e k same next listed h))
+    let Broken = BreaksOff i (line_of w) (start_at i w) (stand a w.desk k) (stand b e k) in
+    fails_alike T U why Done Stopped Broken (subst (λ r. Told r Done Stopped Broken) failed (runs_at result i v w l rest list a b e k same next listed h))

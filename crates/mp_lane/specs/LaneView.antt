@@ -47,6 +47,11 @@ submits (line.Remove ctrl) = false
 submits line.Reap = false
 submits (line.Policy policy) = false
 
+-- how many requests the next of these lines submits
+abbrev pub next_submits : List Numbered1 → ℕ
+next_submits [] = 0
+next_submits (l ∷ rest) = if submits l.line then 1 else 0
+
 -- what a lane that isn't over wants: the list where the next line takes it and none was given, or to run the next line,
 -- or to end
 abbrev pub wants_next : Bool → List Numbered1 → Wants

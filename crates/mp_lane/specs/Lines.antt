@@ -15,7 +15,7 @@ use Rattle.mp_script.specs.declared.script.Line.{Line}
 use Rattle.mp_script.specs.declared.script.Line.TheVariants as line
 use Rattle.mp_script.specs.declared.script.World.{World}
 use Rattle.mp_desk.specs.declared.flying.Flying.{Flying}
-use Rattle.mp_desk.specs.DeskView.{DeskView, flying_with}
+use Rattle.mp_desk.specs.DeskView.{flying_with}
 use Rattle.mp_desk.specs.Calls.{DeskCall, Means, submit, finish, change, add, remove, set_policy, reap}
 
 -- By what the lines of a lane go: how far nodes are from each other, the namespace, the page of each box or why it has

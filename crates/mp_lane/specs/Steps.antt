@@ -1,16 +1,16 @@
 -- What the steps of a lane do.
-use Rattle.std.specs.Prelude.{◌≡◌, ◌≤◌, ℕ, Bool, true, false, List, [], ◌∷◌, map, length, Option, Some, None, IfSome, Result, Ok, Err}
+use Rattle.std.specs.Prelude.{◌≡◌, ◌≤◌, ◌⊎◌, ℕ, Bool, true, false, List, [], ◌∷◌, map, length, Some, None, IfSome, Result, Ok, Err}
 use Rattle.std.specs.List.{AllByRecursion, slice_get}
 use Rattle.mp_record.specs.declared.event.Event.TheVariants as event
 use Rattle.mp_script.specs.declared.script.Line.{Line}
 use Rattle.mp_script.specs.declared.script.Line.TheVariants as line
 use Rattle.mp_script.specs.declared.script.Numbered1.{Numbered1}
-use Rattle.mp_script.specs.declared.script.World.{World}
 use Rattle.mp_core.specs.Core.{Core}
 use Rattle.mp_keep.specs.Keeper.{KeeperView, StandsTo}
 use Rattle.mp_desk.specs.declared.halt.Halt.{Halt}
+use Rattle.mp_desk.specs.declared.halt.Halt.TheVariants as halt
 use Rattle.mp_desk.specs.DeskView.{DeskView, noting}
-use Rattle.mp_desk.specs.Calls.{Stand, CallsTo, StopsTo, Does, EndsAll, Sits, KeepsPass}
+use Rattle.mp_desk.specs.Calls.{Stand, CallsTo, StopsTo, BreaksTo, DoesNothing, EndsAll}
 use Rattle.mp_desk.specs.Desks.{stand}
 use Rattle.mp_lane.specs.declared.error.LaneError.{LaneError}
 use Rattle.mp_lane.specs.declared.error.LaneError.TheVariants as error
@@ -65,12 +65,25 @@ IsToStep wants.Nothing = ⊥
 abbrev pub HasNoKeeperLine : List Numbered1 → Type 0
 HasNoKeeperLine lines = AllByRecursion (λ l. is_keepers l.line ≡ false) lines
 
--- what a line that starts so did, as far as the units were enough: it said what it says, and made its calls
+-- What was done, if it ended well, where units were short, and where memory ran out.
+abbrev pub Told : {T : Type 0} → Result T Halt → Type 0 → Type 0 → Type 0 → Type 0
+Told (Ok x) Done Stopped Broken = Done
+Told (Err halt.Spent) Done Stopped Broken = Stopped
+Told (Err halt.NoMemory) Done Stopped Broken = Broken
+
+-- what a line that starts so did for which memory ran out: nothing, or it said what it says, and one of its calls broke
+-- off
+abbrev pub BreaksOff : Reads → ℕ → LineStart → Stand → Stand → Type 0
+BreaksOff i line start p q =
+    DoesNothing p q ⊎ BreaksTo (means_of i line) start.calls (record p { desk = noting (map (event.At line) start.said) p.desk }) q
+
+-- what a line that starts so did, as far as the units and memory were enough: it said what it says, and made its calls
 abbrev pub Runs : {T : Type 0} → Result T Halt → Reads → ℕ → LineStart → Stand → Stand → Type 0
 Runs result i line start p q =
-    Does result
+    Told result
     (CallsTo (means_of i line) start.calls (record p { desk = noting (map (event.At line) start.said) p.desk }) q)
     (StopsTo (means_of i line) start.calls (record p { desk = noting (map (event.At line) start.said) p.desk }) q)
+    (BreaksOff i line start p q)
 
 -- what a line that starts so did, of a lane that steps beside a keeper
 abbrev pub RunsBeside : {T : Type 0} → Result T Halt → Reads → ℕ → LineStart → Core → Core → DeskView → DeskView → Type 0
@@ -121,6 +134,16 @@ pub record Fails (v w : LaneView) (q : Stand) : Type 0 where
   pub flying : w.desk.flying ≡ []
   pub id : w.id ≡ v.id
   pub keeper : w.keeper ≡ v.keeper
+  pub rest : w.rest ≡ v.rest
+  pub listed : w.listed ≡ false
+
+-- Where memory ran out, what the next line or the end did before that: it broke off, and all flights are ended then.
+pub record IsBroken (i : Reads) (v w : LaneView) (p q : Stand) : Type 0 where
+  pub mid : Stand
+  pub breaks : BreaksOff i (line_of v) (start_at i v) p mid
+  pub ends : EndsAll mid.core q.core mid.desk q.desk
+  pub keeper : q.keeper ≡ mid.keeper
+  pub lane : w ≡ record v { list = []; listed = false; over = true; desk = q.desk }
 
 -- What a step of a lane did, by its answer.
 abbrev pub StepTo : Result Stepped LaneError → Reads → LaneView → LaneView → Stand → Stand → Type 0
@@ -128,6 +151,18 @@ StepTo (Ok Ran) i v w p q = RunsOn i v w p q
 StepTo (Ok Ended) i v w p q = ComesToEnd i v w p q
 StepTo (Ok Spent) i v w p q = IsSpent i v w p q
 StepTo (Err error.NoMemory) i v w p q = Fails v w q
+
+-- A lane stops: all its flights are ended, and it is over.
+pub record Stops (v w : LaneView) (a b : Core) : Type 0 where
+  pub ends : EndsAll a b v.desk w.desk
+  pub lane : w ≡ record v { list = []; listed = false; over = true; desk = w.desk }
+
+-- How a lane goes on once its next line was run, or its end, or either failed.
+abbrev pub Settles : Result Bool Halt → Result Stepped LaneError → LaneView → LaneView → Core → Core → Type 0
+Settles (Ok true) result v w a b = (result ≡ Ok Ran) × (w ≡ record v { rest = behind v.rest; listed = false }) × (b ≡ a)
+Settles (Ok false) result v w a b = (result ≡ Ok Ended) × (w ≡ record v { listed = false; over = true }) × (b ≡ a)
+Settles (Err halt.Spent) result v w a b = (result ≡ Ok Spent) × Stops v w a b
+Settles (Err halt.NoMemory) result v w a b = (result ≡ Err error.NoMemory) × Stops v w a b
 
 -- The keeper stands to its steps after a step of its lane by which the lane goes on, or came to its end.
 abbrev pub StandsIfOn : Stepped → KeeperView → Core → Type 0

@@ -1,6 +1,6 @@
 //! The lines of the keeper's lane.
 
-ghost use Rattle.std.specs.Prelude.{◌≡◌, false, List, OnOk};
+ghost use Rattle.std.specs.Prelude.{◌≡◌, ◌≤◌, ◌+◌, false, length, List, OnErr, if◌then◌else◌};
 ghost use Rattle.std.specs.List.{AllByRecursion};
 ghost use Rattle.mp_words.specs.declared.answers.Answer.{Answer};
 ghost use Rattle.mp_words.specs.Effect.{IsState};
@@ -9,6 +9,8 @@ ghost use Rattle.mp_keep.specs.Keeper.{StandsTo};
 ghost use Rattle.mp_desk.specs.Calls.{add, reap, remove, set_policy, IsWaiting, Sits};
 ghost use Rattle.mp_desk.specs.Desks.{desk_of, stand, KeeperLeaves, Leaves};
 ghost use Rattle.mp_script.specs.declared.script.Line.TheVariants as kind;
+ghost use Rattle.mp_desk.specs.DeskView.{unended};
+ghost use Rattle.mp_lane.specs.LaneView.{submits};
 ghost use Rattle.mp_lane.specs.Lines.{adds, is_keepers, one_call, reads_of, start_of};
 ghost use Rattle.mp_lane.specs.Steps.{CanRead, Runs};
 
@@ -18,7 +20,6 @@ use mp_core::gate::Gate;
 use mp_core::steps::KeeperSteps;
 use mp_desk::desk::Desk;
 use mp_desk::halt::Halt;
-use mp_desk::laws::a_lanes_call_leaves_the_keeper;
 use mp_keep::keeper::Keeper;
 use mp_page::laws::stated_state_is_in_range;
 use mp_script::script::{Line, World};
@@ -42,6 +43,7 @@ fn gift_line<S: KeeperSteps>(
     requires state { IsState gift.state }
     ensures runs { (world : World) (answers : List Answer) → Runs result (reads_of world answers) line (one_call (add gift)) (stand (S.core steps.old) (desk_of desk.old) keeper.old) (stand (S.core steps.new) (desk_of desk.new) keeper.new) }
     ensures leaves { KeeperLeaves (S.core steps.old) (S.core steps.new) (desk_of desk.new) keeper.new }
+    ensures weight { unended (desk_of desk.new) ≤ unended (desk_of desk.old) }
 {
     desk.add(steps, keeper, line, gift)
 }
@@ -63,6 +65,7 @@ fn add_line<S: KeeperSteps>(
     requires page { CanRead world.now.pages (kind.Add ctrl number) }
     ensures runs { (answers : List Answer) → Runs result (reads_of world.now answers) line (adds (reads_of world.now answers) ctrl number) (stand (S.core steps.old) (desk_of desk.old) keeper.old) (stand (S.core steps.new) (desk_of desk.new) keeper.new) }
     ensures leaves { KeeperLeaves (S.core steps.old) (S.core steps.new) (desk_of desk.new) keeper.new }
+    ensures weight { unended (desk_of desk.new) ≤ unended (desk_of desk.old) }
 {
     stated_state_is_in_range();
     let Some(number) = number else {
@@ -95,6 +98,7 @@ fn remove_line<S: KeeperSteps>(
     requires stands { StandsTo keeper.old (S.core steps.old).view }
     ensures runs { (world : World) (answers : List Answer) → Runs result (reads_of world answers) line (one_call (remove ctrl)) (stand (S.core steps.old) (desk_of desk.old) keeper.old) (stand (S.core steps.new) (desk_of desk.new) keeper.new) }
     ensures leaves { KeeperLeaves (S.core steps.old) (S.core steps.new) (desk_of desk.new) keeper.new }
+    ensures weight { unended (desk_of desk.new) ≤ unended (desk_of desk.old) }
 {
     desk.remove(steps, keeper, line, ctrl)
 }
@@ -110,6 +114,7 @@ fn reap_line<S: KeeperSteps>(
     requires stands { StandsTo keeper.old (S.core steps.old).view }
     ensures runs { (world : World) (answers : List Answer) → Runs result (reads_of world answers) line (one_call reap) (stand (S.core steps.old) (desk_of desk.old) keeper.old) (stand (S.core steps.new) (desk_of desk.new) keeper.new) }
     ensures leaves { KeeperLeaves (S.core steps.old) (S.core steps.new) (desk_of desk.new) keeper.new }
+    ensures weight { unended (desk_of desk.new) ≤ unended (desk_of desk.old) }
 {
     desk.reap(steps, keeper, line)
 }
@@ -126,6 +131,7 @@ fn policy_line<S: KeeperSteps>(
     requires stands { StandsTo keeper.old (S.core steps.old).view }
     ensures runs { (world : World) (answers : List Answer) → Runs result (reads_of world answers) line (one_call (set_policy policy)) (stand (S.core steps.old) (desk_of desk.old) keeper.old) (stand (S.core steps.new) (desk_of desk.new) keeper.new) }
     ensures leaves { KeeperLeaves (S.core steps.old) (S.core steps.new) (desk_of desk.new) keeper.new }
+    ensures weight { unended (desk_of desk.new) ≤ unended (desk_of desk.old) }
 {
     desk.set_policy(steps, keeper, line, policy)
 }
@@ -150,9 +156,10 @@ fn other_line<S: KeeperSteps, G: Gate>(
     requires lane { is_keepers asked ≡ false }
     ensures runs { Runs result (reads_of world.now answers.now) line (start_of (reads_of world.now answers.now) list.items desk.old.flights.flying asked) (stand (S.core steps.old) (desk_of desk.old) keeper.now) (stand (S.core steps.new) (desk_of desk.new) keeper.now) }
     ensures leaves { Leaves (S.core steps.old) (S.core steps.new) (desk_of desk.new) }
-    ensures stands { OnOk result (StandsTo keeper.now (S.core steps.new).view) }
+    ensures stands { StandsTo keeper.now (S.core steps.new).view }
+    ensures weight { unended (desk_of desk.new) ≤ unended (desk_of desk.old) + (length list.items + (if submits asked then 1 else 0)) }
+    ensures fails { OnErr result (unended (desk_of desk.new) ≤ unended (desk_of desk.old) + length list.items) }
 {
-    a_lanes_call_leaves_the_keeper();
     run_line(alloc, desk, steps, gate, world, answers, list, line, asked)
 }
 
@@ -175,7 +182,9 @@ pub fn run_keeper_line<S: KeeperSteps, G: Gate>(
     requires waiting { AllByRecursion IsWaiting list.items }
     ensures runs { Runs result (reads_of world.now answers.now) line (start_of (reads_of world.now answers.now) list.items desk.old.flights.flying asked) (stand (S.core steps.old) (desk_of desk.old) keeper.old) (stand (S.core steps.new) (desk_of desk.new) keeper.new) }
     ensures leaves { Leaves (S.core steps.old) (S.core steps.new) (desk_of desk.new) }
-    ensures stands { OnOk result (StandsTo keeper.new (S.core steps.new).view) }
+    ensures stands { StandsTo keeper.new (S.core steps.new).view }
+    ensures weight { unended (desk_of desk.new) ≤ unended (desk_of desk.old) + (length list.items + (if submits asked then 1 else 0)) }
+    ensures fails { OnErr result (unended (desk_of desk.new) ≤ unended (desk_of desk.old) + length list.items) }
 {
     match asked {
         Line::Add(ctrl, number) => {

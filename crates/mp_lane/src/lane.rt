@@ -1,15 +1,16 @@
 //! A lane.
 
-ghost use Rattle.std.specs.Prelude.{◌≡◌, ◌+◌, ◌∷◌, [], List, true, false, length, count_by, IfOk, OnOk};
+ghost use Rattle.std.specs.Prelude.{◌≡◌, ◌≤◌, ◌+◌, ◌∷◌, [], List, true, false, length, count_by, IfOk, OnErr};
 ghost use Rattle.std.specs.List.{AllByRecursion};
 ghost use Rattle.mp_desk.specs.Calls.{EndsAll, IsWaiting, Sits};
-ghost use Rattle.mp_desk.specs.Desks.{stand, Leaves};
+ghost use Rattle.mp_desk.specs.Desks.{stand, KeepsStand, Leaves};
+ghost use Rattle.mp_desk.specs.DeskView.{unended};
 ghost use Rattle.mp_desk.specs.Gains.{Gains, UsesSections};
 ghost use Rattle.mp_keep.specs.Keeper.{KeeperView, StandsTo};
 ghost use Rattle.mp_script.specs.declared.script.Numbered1.{Numbered1};
 ghost use Rattle.mp_lane.specs.Lines.{reads_of};
-ghost use Rattle.mp_lane.specs.Steps.{behind, has_line, line_of, start_at, HasNoKeeperLine, IsToStep, MayRead, Runs, RunsBeside, StandsIfOn, StepTo};
-ghost use Rattle.mp_lane.specs.LaneView.{submits, wants_next, wants_of, weight_of};
+ghost use Rattle.mp_lane.specs.Steps.{behind, has_line, line_of, start_at, HasNoKeeperLine, IsBroken, IsToStep, MayRead, Runs, RunsBeside, Settles, StandsIfOn, StepTo};
+ghost use Rattle.mp_lane.specs.LaneView.{next_submits, submits, wants_next, wants_of, weight_of};
 
 use crate::error::LaneError;
 use crate::keeper_lines::run_keeper_line;
@@ -20,10 +21,7 @@ use mp_core::gate::Gate;
 use mp_core::steps::{KeeperSteps, Steps};
 use mp_desk::desk::Desk;
 use mp_desk::halt::Halt;
-use mp_desk::laws::{
-    a_lanes_call_leaves_the_keeper, a_lanes_calls_use_a_unit_for_each_section,
-    calls_note_what_the_pass_gains,
-};
+use mp_desk::laws::{a_lanes_calls_use_a_unit_for_each_section, calls_note_what_the_pass_gains};
 use mp_desk::roomy::Roomy;
 use mp_keep::keeper::Keeper;
 use mp_record::notes::LaneNotes;
@@ -50,7 +48,7 @@ pub struct Lane {
 }
 
 impl Model for Lane {
-    ghost use Rattle.std.specs.Prelude.{drop};
+    ghost use Rattle.std.specs.Prelude.{◌≡◌, drop, false, []};
     ghost use Rattle.std.specs.List.{AllByRecursion};
     ghost use Rattle.mp_desk.specs.Calls.{IsWaiting};
     ghost use Rattle.mp_desk.specs.Desks.{desk_of};
@@ -60,7 +58,7 @@ impl Model for Lane {
 
     ghost view = { λ l. record { id = l.id; keeper = l.plan.keeper; rest = drop l.next l.plan.lines; list = l.list.items; listed = l.listed; over = l.over; desk = desk_of l.desk } };
 
-    ghost invariant = { λ l. AllByRecursion IsWaiting l.list.items × AllByRecursion IsWaiting l.desk.out.items };
+    ghost invariant = { λ l. AllByRecursion IsWaiting l.list.items × AllByRecursion IsWaiting l.desk.out.items × (l.listed ≡ false → l.list.items ≡ []) };
 }
 
 impl Lane {
@@ -100,17 +98,20 @@ impl Lane {
         requires waiting { AllByRecursion IsWaiting taken.items }
         ensures lane { self.new ≡ record (self.old) { list = taken.items; listed = true } }
         ensures wants { wants_of self.new ≡ Wants.Line }
+        ensures weight { weight_of self.new ≡ weight_of self.old + length taken.items }
     {
         self.list = taken;
         self.listed = true;
     }
 
-    /// Runs the next line, or the lane's end. The lane wants a line or its end, and isn't the keeper's; the pass has its number
-    /// and its flights; each page that it names has at most 65,536 bytes.
+    /// Runs the next line, or the lane's end. The lane wants a line or its end, and isn't the keeper's; the pass has its
+    /// number and its flights; each page that it names has at most 65,536 bytes.
     ///
     /// What it appends to the notes is what the pass gained: its sections, in order, each of which took a unit, and so are
-    /// the entries of rows. `Spent` comes exactly where fewer units are left than the next call needs. Then, and after a refusal, every flight is
-    /// ended, no section is open, and the lane wants nothing.
+    /// the entries of rows. `Spent` comes exactly where fewer units are left than the next call needs. Then, and after a
+    /// refusal, every flight is ended, no section is open, and the lane wants nothing. No step raises the lane's weight.
+    /// Where memory runs out the calls before are done, and of the one that breaks off the tries that met another change of
+    /// the row, and none else.
     ///
     /// # Errors
     ///
@@ -129,32 +130,19 @@ impl Lane {
         requires pages { MayRead world.now.pages self.old.rest }
         ensures does { (k : KeeperView) → StepTo result (reads_of world.now answers.now) self.old self.new (stand (S.core steps.old) self.old.desk k) (stand (S.core steps.new) self.new.desk k) }
         ensures leaves { Leaves (S.core steps.old) (S.core steps.new) self.new.desk }
-        ensures gains { (k : KeeperView) → IfOk result (λ stepped. Gains (stand (S.core steps.old) self.old.desk k) (stand (S.core steps.new) self.new.desk k)) }
-        ensures uses { (k : KeeperView) → IfOk result (λ stepped. UsesSections (stand (S.core steps.old) self.old.desk k) (stand (S.core steps.new) self.new.desk k)) }
+        ensures breaks { (k : KeeperView) → OnErr result (IsBroken (reads_of world.now answers.now) self.old self.new (stand (S.core steps.old) self.old.desk k) (stand (S.core steps.new) self.new.desk k)) }
+        ensures gains { (k : KeeperView) → Gains (stand (S.core steps.old) self.old.desk k) (stand (S.core steps.new) self.new.desk k) }
+        ensures uses { (k : KeeperView) → UsesSections (stand (S.core steps.old) self.old.desk k) (stand (S.core steps.new) self.new.desk k) }
+        ensures stands { KeepsStand (S.core steps.old) (S.core steps.new) }
+        ensures weight { weight_of self.new ≤ weight_of self.old }
     {
         calls_note_what_the_pass_gains();
         a_lanes_calls_use_a_unit_for_each_section();
-        match self.run(steps, gate, world, answers) {
-            Ok(true) => {
-                self.go_on();
-                Ok(Stepped::Ran)
-            }
-            Ok(false) => {
-                self.end();
-                Ok(Stepped::Ended)
-            }
-            Err(halt) => {
-                self.stop(steps);
-                match halt {
-                    Halt::Spent => Ok(Stepped::Spent),
-                    Halt::NoMemory => Err(LaneError::NoMemory),
-                }
-            }
-        }
+        let ran = self.run(steps, gate, world, answers);
+        self.settle(steps, ran)
     }
 
-    /// The same for the keeper's lane, where the keeper stands to the steps. After a line, and after the end, it stands to them
-    /// still.
+    /// The same for the keeper's lane, where the keeper stands to the steps. However the step ends, it stands to them then.
     ///
     /// # Errors
     ///
@@ -175,10 +163,32 @@ impl Lane {
         ensures does { StepTo result (reads_of world.now answers.now) self.old self.new (stand (S.core steps.old) self.old.desk keeper.old) (stand (S.core steps.new) self.new.desk keeper.new) }
         ensures leaves { Leaves (S.core steps.old) (S.core steps.new) self.new.desk }
         ensures stands { IfOk result (λ stepped. StandsIfOn stepped keeper.new (S.core steps.new)) }
-        ensures gains { IfOk result (λ stepped. Gains (stand (S.core steps.old) self.old.desk keeper.old) (stand (S.core steps.new) self.new.desk keeper.new)) }
+        ensures breaks { OnErr result (IsBroken (reads_of world.now answers.now) self.old self.new (stand (S.core steps.old) self.old.desk keeper.old) (stand (S.core steps.new) self.new.desk keeper.new)) }
+        ensures gains { Gains (stand (S.core steps.old) self.old.desk keeper.old) (stand (S.core steps.new) self.new.desk keeper.new) }
+        ensures keeps { StandsTo keeper.new (S.core steps.new).view }
+        ensures weight { weight_of self.new ≤ weight_of self.old }
     {
         calls_note_what_the_pass_gains();
-        match self.run_keeper(steps, gate, world, answers, keeper) {
+        let ran = self.run_keeper(steps, gate, world, answers, keeper);
+        self.settle(steps, ran)
+    }
+
+    /// Goes on behind the line that was run. At the end the lane is over, and so it is where the line or the end failed,
+    /// when every flight is ended too.
+    fn settle<S: Steps>(
+        &mut self,
+        steps: &mut S,
+        ran: Result<bool, Halt>,
+    ) -> Result<Stepped, LaneError>
+        requires lane { (S.core steps.old).lane ≡ self.old.id }
+        requires sits { Sits (S.core steps.old) self.old.desk }
+        requires list { self.old.list ≡ [] }
+        requires ran { IfOk ran (λ ran. ran ≡ has_line self.old.rest) }
+        ensures settles { Settles ran result self.old self.new (S.core steps.old) (S.core steps.new) }
+        ensures leaves { Leaves (S.core steps.old) (S.core steps.new) self.new.desk }
+        ensures stands { KeepsStand (S.core steps.old) (S.core steps.new) }
+    {
+        match ran {
             Ok(true) => {
                 self.go_on();
                 Ok(Stepped::Ran)
@@ -213,17 +223,16 @@ impl Lane {
         ensures runs { Runs result (reads_of world.now answers.now) (line_of self.old) (start_at (reads_of world.now answers.now) self.old) (stand (S.core steps.old) self.old.desk keeper.old) (stand (S.core steps.new) self.new.desk keeper.new) }
         ensures ran { IfOk result (λ ran. ran ≡ has_line self.old.rest) }
         ensures leaves { Leaves (S.core steps.old) (S.core steps.new) self.new.desk }
-        ensures stands { OnOk result (StandsTo keeper.new (S.core steps.new).view) }
+        ensures stands { StandsTo keeper.new (S.core steps.new).view }
+        ensures weight { unended self.new.desk ≤ unended self.old.desk + (length self.old.list + next_submits self.old.rest) }
+        ensures fails { OnErr result (unended self.new.desk ≤ unended self.old.desk + length self.old.list) }
     {
         let list = mem::replace(&mut self.list, Vec::new(self.alloc));
         match self.plan.lines.as_slice().get(self.next) {
-            None => {
-                a_lanes_call_leaves_the_keeper();
-                match finish_line(&mut self.desk, steps, gate, answers, 0, &None) {
-                    Ok(()) => Ok(false),
-                    Err(halt) => Err(halt),
-                }
-            }
+            None => match finish_line(&mut self.desk, steps, gate, answers, 0, &None) {
+                Ok(()) => Ok(false),
+                Err(halt) => Err(halt),
+            },
             Some(numbered) => {
                 let line = numbered.number;
                 let asked = numbered.line;
@@ -248,7 +257,8 @@ impl Lane {
 
     /// The next line was run: the lane goes on to the one behind it.
     fn go_on(&mut self)
-        requires { has_line self.old.rest ≡ true }
+        requires line { has_line self.old.rest ≡ true }
+        requires list { self.old.list ≡ [] }
         ensures { self.new ≡ record (self.old) { rest = behind self.old.rest; listed = false } }
     {
         // The proof needs its range.
@@ -259,6 +269,7 @@ impl Lane {
 
     /// The lane has come to its end.
     fn end(&mut self)
+        requires { self.old.list ≡ [] }
         ensures { self.new ≡ record (self.old) { listed = false; over = true } }
     {
         self.listed = false;
@@ -280,6 +291,9 @@ impl Lane {
         ensures runs { RunsBeside result (reads_of world.now answers.now) (line_of self.old) (start_at (reads_of world.now answers.now) self.old) (S.core steps.old) (S.core steps.new) self.old.desk self.new.desk }
         ensures ran { IfOk result (λ ran. ran ≡ has_line self.old.rest) }
         ensures leaves { Leaves (S.core steps.old) (S.core steps.new) self.new.desk }
+        ensures stands { KeepsStand (S.core steps.old) (S.core steps.new) }
+        ensures weight { unended self.new.desk ≤ unended self.old.desk + (length self.old.list + next_submits self.old.rest) }
+        ensures fails { OnErr result (unended self.new.desk ≤ unended self.old.desk + length self.old.list) }
     {
         let list = mem::replace(&mut self.list, Vec::new(self.alloc));
         match self.plan.lines.as_slice().get(self.next) {
@@ -327,6 +341,8 @@ impl Lane {
         ensures ends { EndsAll (S.core steps.old) (S.core steps.new) self.old.desk self.new.desk }
         ensures leaves { Leaves (S.core steps.old) (S.core steps.new) self.new.desk }
         ensures lane { self.new ≡ record (self.old) { list = []; listed = false; over = true; desk = self.new.desk } }
+        ensures stands { KeepsStand (S.core steps.old) (S.core steps.new) }
+        ensures weight { weight_of self.new ≤ weight_of self.old }
     {
         self.desk.end_all(steps);
         self.list = Vec::new(self.alloc);

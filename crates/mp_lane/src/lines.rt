@@ -1,14 +1,16 @@
 //! The lines of a lane.
 
-ghost use Rattle.std.specs.Prelude.{◌≡◌, [], false, List, Some, None};
+ghost use Rattle.std.specs.Prelude.{◌≡◌, ◌≤◌, ◌+◌, [], false, length, List, Some, None, OnErr, if◌then◌else◌};
 ghost use Rattle.std.specs.List.{AllByRecursion};
 ghost use Rattle.mp_words.specs.declared.answers.Answer.{Answer};
 ghost use Rattle.mp_change.specs.Changes.{IsLineOp};
 ghost use Rattle.mp_desk.specs.Calls.{change, IsWaiting, Sits};
-ghost use Rattle.mp_desk.specs.Desks.{desk_of, Leaves};
+ghost use Rattle.mp_desk.specs.Desks.{desk_of, KeepsStand, Leaves};
+ghost use Rattle.mp_desk.specs.DeskView.{unended};
 ghost use Rattle.mp_desk.specs.Indexed.{flying_of};
 ghost use Rattle.mp_script.specs.declared.script.Line.TheVariants as kind;
 ghost use Rattle.mp_script.specs.declared.script.World.{World};
+ghost use Rattle.mp_lane.specs.LaneView.{submits};
 ghost use Rattle.mp_lane.specs.Lines.{finishes, is_keepers, one_call, reads_of, start_of};
 ghost use Rattle.mp_lane.specs.Steps.{CanRead, FitsPage, RunsBeside};
 
@@ -42,6 +44,9 @@ fn submit_line<S: Steps, G: Gate>(
     requires sits { Sits (S.core steps.old) (desk_of desk.old) }
     ensures runs { (answers : List Answer) → RunsBeside result (reads_of world.now answers) line (start_of (reads_of world.now answers) [] desk.old.flights.flying (kind.Submit req node)) (S.core steps.old) (S.core steps.new) (desk_of desk.old) (desk_of desk.new) }
     ensures leaves { Leaves (S.core steps.old) (S.core steps.new) (desk_of desk.new) }
+    ensures stands { KeepsStand (S.core steps.old) (S.core steps.new) }
+    ensures weight { unended (desk_of desk.new) ≤ unended (desk_of desk.old) + 1 }
+    ensures fails { OnErr result (unended (desk_of desk.new) ≤ unended (desk_of desk.old)) }
 {
     if desk.say(line, Said::Submit).is_err() {
         return Err(Halt::NoMemory);
@@ -66,6 +71,8 @@ pub fn finish_line<S: Steps, G: Gate>(
     requires sits { Sits (S.core steps.old) (desk_of desk.old) }
     ensures runs { (world : World) → RunsBeside result (reads_of world answers.now) line (finishes (flying_of named.now desk.old.flights.flying)) (S.core steps.old) (S.core steps.new) (desk_of desk.old) (desk_of desk.new) }
     ensures leaves { Leaves (S.core steps.old) (S.core steps.new) (desk_of desk.new) }
+    ensures stands { KeepsStand (S.core steps.old) (S.core steps.new) }
+    ensures weight { unended (desk_of desk.new) ≤ unended (desk_of desk.old) }
 {
     let Ok(count) = u32::try_from(desk.flights.count(named)) else {
         return Err(Halt::NoMemory);
@@ -89,6 +96,8 @@ fn requeue_line<S: Steps, G: Gate>(
     requires waiting { AllByRecursion IsWaiting list.items }
     ensures runs { (answers : List Answer) → RunsBeside result (reads_of world.now answers) line (start_of (reads_of world.now answers) list.items desk.old.flights.flying kind.Requeue) (S.core steps.old) (S.core steps.new) (desk_of desk.old) (desk_of desk.new) }
     ensures leaves { Leaves (S.core steps.old) (S.core steps.new) (desk_of desk.new) }
+    ensures stands { KeepsStand (S.core steps.old) (S.core steps.new) }
+    ensures weight { unended (desk_of desk.new) ≤ unended (desk_of desk.old) + length list.items }
 {
     let Ok(count) = u32::try_from(list.len()) else {
         return Err(Halt::NoMemory);
@@ -112,6 +121,8 @@ fn change_line<S: Steps, G: Gate>(
     requires op { IsLineOp op.now }
     ensures runs { (world : World) (answers : List Answer) → RunsBeside result (reads_of world answers) line (one_call (change ctrl op.now)) (S.core steps.old) (S.core steps.new) (desk_of desk.old) (desk_of desk.new) }
     ensures leaves { Leaves (S.core steps.old) (S.core steps.new) (desk_of desk.new) }
+    ensures stands { KeepsStand (S.core steps.old) (S.core steps.new) }
+    ensures weight { unended (desk_of desk.new) ≤ unended (desk_of desk.old) }
 {
     desk.change(steps, gate, line, ctrl, op)
 }
@@ -131,6 +142,8 @@ fn log_line<S: Steps, G: Gate>(
     requires page { FitsPage world.now.pages number }
     ensures runs { (answers : List Answer) → RunsBeside result (reads_of world.now answers) line (start_of (reads_of world.now answers) [] desk.old.flights.flying (kind.Log ctrl number)) (S.core steps.old) (S.core steps.new) (desk_of desk.old) (desk_of desk.new) }
     ensures leaves { Leaves (S.core steps.old) (S.core steps.new) (desk_of desk.new) }
+    ensures stands { KeepsStand (S.core steps.old) (S.core steps.new) }
+    ensures weight { unended (desk_of desk.new) ≤ unended (desk_of desk.old) }
 {
     stated_state_is_in_range();
     match page_in(alloc, world, number) {
@@ -166,6 +179,9 @@ pub fn run_line<S: Steps, G: Gate>(
     requires lane { is_keepers asked ≡ false }
     ensures runs { RunsBeside result (reads_of world.now answers.now) line (start_of (reads_of world.now answers.now) list.items desk.old.flights.flying asked) (S.core steps.old) (S.core steps.new) (desk_of desk.old) (desk_of desk.new) }
     ensures leaves { Leaves (S.core steps.old) (S.core steps.new) (desk_of desk.new) }
+    ensures stands { KeepsStand (S.core steps.old) (S.core steps.new) }
+    ensures weight { unended (desk_of desk.new) ≤ unended (desk_of desk.old) + (length list.items + (if submits asked then 1 else 0)) }
+    ensures fails { OnErr result (unended (desk_of desk.new) ≤ unended (desk_of desk.old) + length list.items) }
 {
     match asked {
         Line::Submit(req, node) => submit_line(alloc, desk, steps, gate, world, line, req, node),

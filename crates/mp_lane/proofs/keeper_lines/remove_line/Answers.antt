@@ -7,4 +7,4 @@ use Rattle.mp_lane.proofs.keeper_lines.remove_line.Goals as goal
 pub returns-clause-runs : goal.returns-clause-runs
 returns-clause-runs g c world answers =
     one_silent c.remove.result (means_of (reads_of world answers) c.args.line) (remove c.args.ctrl) (stand (g.S.Steps.core c.args.steps.now) (desk_of c.args.desk.now) c.args.keeper.now) (stand (g.S.Steps.core c.remove.new.steps) (desk_of c.remove.new.self) c.remove.new.keeper)
-    (c.remove.ensures.does world.topology.near answers)
+    (c.remove.ensures.does world.topology.near answers) (c.remove.ensures.breaks world.topology.near answers)

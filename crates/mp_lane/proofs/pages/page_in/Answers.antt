@@ -1,4 +1,4 @@
-use Rattle.std.proofs.Common.{◌≡◌, ◌∷◌, [], ℕ, List, None, Some, sym, map}
+use Rattle.std.proofs.Common.{◌≡◌, None, sym}
 use Rattle.std.specs.Prelude.{slice_get}
 use Rattle.mp_page.specs.Page.{page_in}
 use Rattle.mp_lane.proofs.NoPage.{no_page}

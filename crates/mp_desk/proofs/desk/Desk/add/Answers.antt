@@ -6,7 +6,7 @@ use Rattle.mp_keep.specs.Keeps.{Adds}
 use Rattle.mp_desk.specs.DeskView.{entering, noting}
 use Rattle.mp_desk.specs.Desks.{desk_of}
 use Rattle.mp_desk.specs.Says.{added_said, entry_added}
-use Rattle.mp_desk.proofs.Keeping.{adds_stays, room_leaves, stays_leaves}
+use Rattle.mp_desk.proofs.Keeping.{adds_stays, makes_room, notes_weigh, room_leaves, room_weighs, stays_leaves}
 use Rattle.mp_desk.proofs.KeeperStands.{stands_room}
 use Rattle.mp_desk.proofs.Sitting.{kept_same, ok_so}
 use Rattle.mp_desk.proofs.desk.Desk.add.Goals as goal
@@ -36,3 +36,12 @@ returns-clause-leaves g c =
 
 pub note_added-requires : goal.note_added-requires
 note_added-requires g c = ok_so c.reserve_with.result c.is_err.result c.is_err.ensures.value c.if-is_err.false c.reserve_with.ensures.room
+
+pub returns-then-is_err-clause-weight : goal.returns-then-is_err-clause-weight
+returns-then-is_err-clause-weight g c = room_weighs (desk_of c.args.self.now) (desk_of c.reserve_with.new.self) c.reserve_with.ensures.desk
+
+pub returns-clause-weight : goal.returns-clause-weight
+returns-clause-weight g c = notes_weigh (desk_of c.args.self.now) (desk_of c.reserve_with.new.self) (desk_of c.note_added.new.self) (entry_added c.add-answer.result) (event.At c.args.line (added_said c.add-answer.result) ∷ []) c.reserve_with.ensures.desk c.note_added.ensures
+
+pub returns-then-is_err-clause-breaks : goal.returns-then-is_err-clause-breaks
+returns-then-is_err-clause-breaks g c near answers = makes_room (g.S.Steps.core c.args.steps.now) (desk_of c.args.self.now) (desk_of c.reserve_with.new.self) c.args.keeper.now c.reserve_with.new.keeper c.reserve_with.ensures.desk c.reserve_with.ensures.keeper

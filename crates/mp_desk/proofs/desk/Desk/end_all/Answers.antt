@@ -2,7 +2,7 @@ use Rattle.std.proofs.Common.{◌+◌, ap, sym, ◌∙◌, subst}
 use Rattle.mp_core.specs.Kinds.{Lands}
 use Rattle.mp_core.specs.Views.{has_flight}
 use Rattle.mp_desk.specs.Desks.{desk_of}
-use Rattle.mp_desk.proofs.Ending.{EndsSome, ends_none, ends_more, ends_still, ends_all, end_leaves, flies_now}
+use Rattle.mp_desk.proofs.Ending.{EndsSome, ends_none, ends_more, ends_still, ends_all, end_leaves, end_stands, flies_now}
 use Rattle.mp_desk.proofs.desk.Desk.end_all.Goals as goal
 use Rattle.mp_desk.proofs.desk.Desk.end_all.Goals.{in-None, in-Some}
 
@@ -32,3 +32,6 @@ returns-clause-ends g c = ends_all _ _ (desk_of c.args.self.now) (desk_of c.loop
 
 pub returns-clause-leaves : goal.returns-clause-leaves
 returns-clause-leaves g c = end_leaves _ _ (desk_of c.args.self.now) (desk_of c.loop.self) (ends_all _ _ (desk_of c.args.self.now) (desk_of c.loop.self) c.loop.counter c.count-end.result c.loop.invariant c.loop-test.false) c.requires.sits
+
+pub returns-clause-stands : goal.returns-clause-stands
+returns-clause-stands g c = end_stands _ _ (desk_of c.args.self.now) (desk_of c.loop.self) (ends_all _ _ (desk_of c.args.self.now) (desk_of c.loop.self) c.loop.counter c.count-end.result c.loop.invariant c.loop-test.false)

@@ -6,7 +6,7 @@ use Rattle.mp_keep.specs.Walks.{Reaps, entries_of}
 use Rattle.mp_desk.specs.DeskView.{entering, noting}
 use Rattle.mp_desk.specs.Desks.{desk_of}
 use Rattle.mp_desk.specs.Says.{reaped_said}
-use Rattle.mp_desk.proofs.Keeping.{reaps_stays, room_leaves, stays_leaves}
+use Rattle.mp_desk.proofs.Keeping.{makes_room, notes_weigh, reaps_stays, room_leaves, room_weighs, stays_leaves}
 use Rattle.mp_desk.proofs.KeeperStands.{stands_room}
 use Rattle.mp_desk.proofs.Sitting.{kept_same}
 use Rattle.mp_desk.proofs.desk.Desk.reap.Goals as goal
@@ -33,3 +33,12 @@ pub returns-clause-leaves : goal.returns-clause-leaves
 returns-clause-leaves g c =
     stays_leaves (g.S.Steps.core c.args.steps.now) (g.S.Steps.core c.reap-answer.new.steps) (desk_of c.args.self.now) (desk_of c.reserve_with.new.self) (desk_of c.note_reaped.new.self) (entries_of c.reap-answer.result) (event.At c.args.line (reaped_said c.reap-answer.result) ∷ []) c.reap-answer.new.self
     (reaps_stays c.reserve_with.new.keeper c.reap-answer.new.self (g.S.Steps.core c.args.steps.now) (g.S.Steps.core c.reap-answer.new.steps) _ c.reap-answer.result c.reap-answer.ensures c.requires.sits.closed) c.requires.sits c.reserve_with.ensures.desk c.note_reaped.ensures c.reap-answer.ensures.stands
+
+pub returns-then-is_err-clause-weight : goal.returns-then-is_err-clause-weight
+returns-then-is_err-clause-weight g c = room_weighs (desk_of c.args.self.now) (desk_of c.reserve_with.new.self) c.reserve_with.ensures.desk
+
+pub returns-clause-weight : goal.returns-clause-weight
+returns-clause-weight g c = notes_weigh (desk_of c.args.self.now) (desk_of c.reserve_with.new.self) (desk_of c.note_reaped.new.self) (entries_of c.reap-answer.result) (event.At c.args.line (reaped_said c.reap-answer.result) ∷ []) c.reserve_with.ensures.desk c.note_reaped.ensures
+
+pub returns-then-is_err-clause-breaks : goal.returns-then-is_err-clause-breaks
+returns-then-is_err-clause-breaks g c near answers = makes_room (g.S.Steps.core c.args.steps.now) (desk_of c.args.self.now) (desk_of c.reserve_with.new.self) c.args.keeper.now c.reserve_with.new.keeper c.reserve_with.ensures.desk c.reserve_with.ensures.keeper

@@ -6,7 +6,7 @@ use Rattle.mp_keep.specs.Keeper.{KeeperView}
 use Rattle.mp_keep.specs.Keeps.{SetsPolicy}
 use Rattle.mp_desk.specs.DeskView.{noting}
 use Rattle.mp_desk.specs.Desks.{desk_of}
-use Rattle.mp_desk.proofs.Keeping.{room_leaves, sets_stays, stays_leaves}
+use Rattle.mp_desk.proofs.Keeping.{makes_room, room_leaves, room_weighs, sets_stays, stays_leaves}
 use Rattle.mp_desk.proofs.KeeperStands.{stands_room}
 use Rattle.mp_desk.proofs.Sitting.{kept_same}
 use Rattle.mp_desk.proofs.desk.Desk.set_policy.Goals as goal
@@ -34,3 +34,12 @@ returns-clause-leaves g c =
     stays_leaves (g.S.Steps.core c.args.steps.now) (g.S.Steps.core c.set_policy-entry.new.steps) (desk_of c.args.self.now) (desk_of c.reserve_with.new.self) _ [] (event.At c.args.line (said.Policy c.set_policy-entry.result.order.version) ∷ []) c.set_policy-entry.new.self
     (sets_stays c.reserve_with.new.keeper c.set_policy-entry.new.self (g.S.Steps.core c.args.steps.now) (g.S.Steps.core c.set_policy-entry.new.steps) c.args.policy _ c.set_policy-entry.result c.set_policy-entry.ensures c.requires.sits.closed) c.requires.sits c.reserve_with.ensures.desk
     (λ i. record (desk_of c.reserve_with.new.self) { events = c.push.ensures.events i; rows = sym (append-nil c.reserve_with.new.self.rows.items) i }) c.set_policy-entry.ensures.stands
+
+pub returns-then-is_err-clause-weight : goal.returns-then-is_err-clause-weight
+returns-then-is_err-clause-weight g c = room_weighs (desk_of c.args.self.now) (desk_of c.reserve_with.new.self) c.reserve_with.ensures.desk
+
+pub returns-clause-weight : goal.returns-clause-weight
+returns-clause-weight g c = room_weighs (desk_of c.args.self.now) (desk_of c.reserve_with.new.self) c.reserve_with.ensures.desk
+
+pub returns-then-is_err-clause-breaks : goal.returns-then-is_err-clause-breaks
+returns-then-is_err-clause-breaks g c near answers = makes_room (g.S.Steps.core c.args.steps.now) (desk_of c.args.self.now) (desk_of c.reserve_with.new.self) c.args.keeper.now c.reserve_with.new.keeper c.reserve_with.ensures.desk c.reserve_with.ensures.keeper

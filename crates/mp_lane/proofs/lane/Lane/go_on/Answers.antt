@@ -6,7 +6,7 @@ use Rattle.mp_lane.proofs.lane.Lane.go_on.Goals as goal
 
 pub overflow_add-self : goal.overflow_add-self
 overflow_add-self c =
-    omega (arith, left_below c.self.inside.next c.self.inside.plan.lines (ap (λ v. has_line v.rest) c.self.view_is ∙ c.requires), c.len-lines.ensures, c.len-lines.type_inv)
+    omega (arith, left_below c.self.inside.next c.self.inside.plan.lines (ap (λ v. has_line v.rest) c.self.view_is ∙ c.requires.line), c.len-lines.ensures, c.len-lines.type_inv)
 
 pub returns : goal.returns
 returns c =

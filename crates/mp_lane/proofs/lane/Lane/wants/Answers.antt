@@ -1,4 +1,4 @@
-use Rattle.std.proofs.Common.{◌<◌, ◌+◌, length, drop, refl, sym, ap, ◌∙◌, subst}
+use Rattle.std.proofs.Common.{◌+◌, drop, refl, sym, ap, ◌∙◌}
 use Rattle.mp_lane.proofs.Rests.{next_got}
 use Rattle.mp_lane.proofs.Stepping.{wants_so}
 use Rattle.mp_lane.proofs.lane.Lane.wants.Goals as goal
