@@ -1,5 +1,5 @@
 -- What the calls of lanes leave of how the keeper stands to its steps, and of what its data agree with.
-use Rattle.std.proofs.Common.{◌≡◌, ℕ, zero, suc, ◌≤◌, ◌<◌, ◌+◌, ◌==◌, ◌||◌, ◌&&◌, Bool, true, false, nat_lt, List, [], ◌∷◌, ◌++◌, filter, find, map, cond, get_or, set, Option, Some, None, is_some, refl, sym, ap, ◌∙◌, subst, arith, if◌then◌else◌}
+use Rattle.std.proofs.Common.{◌≡◌, ℕ, zero, suc, ◌≤◌, ◌<◌, ◌+◌, ◌==◌, ◌||◌, ◌&&◌, Bool, true, false, nat_lt, List, [], ◌∷◌, find, map, cond, get_or, set, Option, Some, None, is_some, refl, sym, ap, ◌∙◌, subst, arith, if◌then◌else◌}
 use Rattle.std.specs.List.{list_all}
 use Rattle.std.proofs.lemmas.Bool.Decides.{nat_tests}
 use Rattle.std.proofs.Math.ListN.{get_or-map}
@@ -7,51 +7,28 @@ use Rattle.mp_words.specs.declared.answers.Answer.{Answer}
 use Rattle.mp_words.specs.declared.entry.RowEntry.{RowEntry}
 use Rattle.mp_words.specs.declared.flight.Flight.{Flight}
 use Rattle.mp_words.specs.declared.near.Near.{Near}
-use Rattle.mp_words.specs.declared.note.Note.{Note}
 use Rattle.mp_words.specs.declared.op.Effect.{Effect}
 use Rattle.mp_words.specs.declared.op.Effect.TheVariants as effect
 use Rattle.mp_words.specs.declared.op.Op.{Op}
 use Rattle.mp_words.specs.declared.op.Op.TheVariants as op
-use Rattle.mp_words.specs.declared.op.Maker.{Maker}
 use Rattle.mp_words.specs.declared.op.Maker.TheVariants.{Hop}
 use Rattle.mp_words.specs.declared.path.Path.{Path}
 use Rattle.mp_words.specs.declared.row.Row.{Row}
 use Rattle.mp_words.specs.declared.row.CState.{CState}
 use Rattle.mp_words.specs.declared.row.CState.TheVariants.{Resetting}
-use Rattle.mp_words.specs.declared.trying.Back.{Back}
 use Rattle.mp_words.specs.declared.trying.Back.TheVariants as back
-use Rattle.mp_words.specs.declared.trying.Try.{Try}
 use Rattle.mp_words.specs.declared.trying.TryEnd.{TryEnd}
 use Rattle.mp_words.specs.declared.trying.TryEnd.TheVariants as tryend
-use Rattle.mp_words.specs.Effect.{Clears, every_one, the_slots, none, clears_of, effect_of, free_row, may_become}
+use Rattle.mp_words.specs.Effect.{effect_of, free_row, may_become}
 use Rattle.mp_words.specs.Order.{slots_of}
 use Rattle.mp_words.specs.PathTable.{has_ctrl}
 use Rattle.mp_words.specs.Request.{Asked, Tried}
-use Rattle.mp_words.specs.RequestView.{RequestView}
 use Rattle.mp_words.specs.Row.{is_given}
 use Rattle.mp_status.specs.declared.class.Class.{Class}
 use Rattle.mp_status.specs.declared.class.Class.TheVariants as class
-use Rattle.mp_core.specs.declared.view.Seen.{Seen}
-use Rattle.mp_core.specs.declared.view.View.{View}
-use Rattle.mp_core.specs.Core.{Core}
-use Rattle.mp_core.specs.Kinds.{Lands}
-use Rattle.mp_core.specs.Status.{status, lists, has}
-use Rattle.mp_core.specs.Unpacked.{first_status, start_order}
-use Rattle.mp_core.specs.Views.{unheld, last_order}
-use Rattle.mp_change.specs.declared.change.ChangeEnd.{ChangeEnd}
-use Rattle.mp_change.specs.declared.change.ChangeEnd.TheVariants as end
-use Rattle.mp_change.specs.declared.pending.PendingEnd.{PendingEnd}
-use Rattle.mp_change.specs.declared.pending.PendingEnd.TheVariants as pending
-use Rattle.mp_change.specs.Changes.{ChangesPath, IsLineOp, end_view}
-use Rattle.mp_change.specs.Clears.{clears_view}
-use Rattle.mp_change.specs.Pending.{MarksPending, DropsCurrent, dropped, pending_view}
-use Rattle.mp_submit.specs.declared.finish.Finished.{Finished}
-use Rattle.mp_submit.specs.declared.finish.Finished.TheVariants as finished
-use Rattle.mp_submit.specs.declared.submit.Submitted.{Submitted}
-use Rattle.mp_submit.specs.Finishes.{Finishes, FinishTo, FailsOver, hop_of}
-use Rattle.mp_submit.specs.Submits.{Submits}
-use Rattle.mp_keep.specs.Keeper.{KeeperView, StandsTo, StatusBy, IsSound, removal_of, has_entry, owner_of, owner_at}
-use Rattle.mp_keep.proofs.Stands.{passed_stands, clears_stand}
+use Rattle.mp_core.specs.Status.{lists, has}
+use Rattle.mp_change.specs.Changes.{IsLineOp}
+use Rattle.mp_keep.specs.Keeper.{KeeperView, IsSound, removal_of, owner_of, owner_at}
 use Rattle.mp_legal.specs.PlainChange.{changed, changed_by, changed_path}
 use Rattle.mp_legal.specs.PlainFinish as plain
 use Rattle.mp_legal.specs.PlainState.{State, row_at, request_of, paths_of, with_entry, entry_of}

@@ -1,4 +1,6 @@
 pub mod AddStep
+pub mod AnyOrder
+pub mod Blanks
 pub mod ChangeStep
 pub mod Cleared
 pub mod DeskCalls
@@ -14,6 +16,7 @@ pub mod DeskSubmit
 pub mod DeskTimes
 pub mod DeskTurns
 pub mod EachCall
+pub mod EachVersion
 pub mod EndedTries
 pub mod FinishStep
 pub mod FitCalls
@@ -27,15 +30,20 @@ pub mod KeptPaths
 pub mod KeptWords
 pub mod Landing
 pub mod MadeCalls
+pub mod OnceByNumber
 pub mod PaidBack
 pub mod PaidCalls
+pub mod Placed
 pub mod PlainWalk
 pub mod PolicyStep
 pub mod ReapStep
 pub mod RemoveStep
 pub mod RowMoves
+pub mod SameItems
+pub mod SameRequests
 pub mod Sending
 pub mod SubmitStep
+pub mod Tested
 pub mod Trails
 pub mod Unlisting
 pub mod Untouched

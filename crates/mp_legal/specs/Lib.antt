@@ -25,6 +25,8 @@ pub mod ToldState
 pub mod ToldCalls
 pub mod ToldKeeper
 pub mod ToldDesks
+pub mod Gathering
+pub mod Placing
 pub mod CaseAllFifteenSlots
 pub mod CaseChangeArmsAndTimerExpires
 pub mod CaseDeadControllersFailARequest
