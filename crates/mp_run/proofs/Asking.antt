@@ -1,5 +1,5 @@
 -- What a call asks of the folder.
-use Rattle.std.proofs.Common.{◌≡◌, ◌≤◌, ℕ, List, [], ◌∷◌, ◌++◌, append_assoc, take, length, Result, Ok, Err, sym, ap, ◌∙◌, arith, take_all}
+use Rattle.std.proofs.Common.{[], ◌≡◌, ◌≤◌, ℕ, List, ◌∷◌, ◌++◌, append_assoc, take, length, Result, Ok, Err, sym, ap, ◌∙◌, arith, take_all}
 use Rattle.std.specs.Prelude.{IfErr}
 use Rattle.mp_run.specs.declared.status.Status.{Status}
 use Rattle.mp_run.specs.declared.status.Status.TheVariants as end

@@ -1,7 +1,6 @@
 -- Requests of a number.
-use Rattle.std.proofs.Common.{◌≡◌, ℕ, Bool, true, false, ◌||◌, ◌==◌, List, [], ◌∷◌, ◌++◌, Some, find, refl, ap}
-use Rattle.mp_words.specs.Request.{Asked, Tried}
-use Rattle.mp_legal.specs.PlainState.{with_tries}
+use Rattle.std.proofs.Common.{[], ◌≡◌, ℕ, Bool, true, false, ◌||◌, ◌==◌, List, ◌∷◌, ◌++◌, Some, find, refl}
+use Rattle.mp_words.specs.Request.{Asked}
 use Rattle.mp_legal.specs.Numbers.{has_req}
 
 pub or_false : (a b : Bool) → (a || b) ≡ false → (a ≡ false) × (b ≡ false)
@@ -14,10 +13,3 @@ find_behind req [] after a none is = rw is refl
 find_behind req (b ∷ before) after a none is =
     let parts = or_false (b.req == req) (has_req req before) none in
     rw parts.0 (find_behind req before after a parts.1 is)
-
--- requests of other numbers keep their tries
-pub with_tries_other : (req : ℕ) (tries : List Tried) (requests : List Asked) → has_req req requests ≡ false → with_tries req tries requests ≡ requests
-with_tries_other req tries [] none = refl
-with_tries_other req tries (b ∷ requests) none =
-    let parts = or_false (b.req == req) (has_req req requests) none in
-    rw parts.0 (ap (λ bs. b ∷ bs) (with_tries_other req tries requests parts.1))

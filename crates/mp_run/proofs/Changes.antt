@@ -1,20 +1,16 @@
 -- What changes leave of flights, numbers and tries.
-use Rattle.std.proofs.Common.{◌≡◌, ℕ, zero, suc, Bool, true, false, not, ◌&&◌, ◌||◌, ◌==◌, List, [], ◌∷◌, ◌++◌, ◌⊎◌, inl, inr, map, filter, get_or, set, Some, None, refl, sym, ap, ◌∙◌, subst, eq-eqb, arith}
-use Rattle.std.specs.List.{last_or, list_any}
+use Rattle.std.proofs.Common.{[], ◌≡◌, ℕ, zero, suc, Bool, true, false, not, ◌||◌, ◌==◌, List, ◌∷◌, ◌++◌, ◌⊎◌, inl, inr, filter, get_or, set, Some, None, refl, sym, ap, ◌∙◌, subst, eq-eqb, arith}
+use Rattle.std.specs.List.{last_or}
 use Rattle.std.proofs.lemmas.Bool.{cases_Bool, eqb-true, cases_eq}
 use Rattle.std.proofs.lemmas.List.{get_or-set_other}
 use Rattle.mp_checks.specs.Marks.{has}
 use Rattle.mp_words.specs.declared.flight.Flight.{Flight}
 use Rattle.mp_words.specs.Request.{Asked, Tried, outcome_of}
-use Rattle.mp_core.specs.Views.{is_flight}
 use Rattle.mp_legal.specs.PlainState.{State, with_tries}
 use Rattle.mp_legal.specs.PlainLine.{flights_of}
 use Rattle.mp_legal.specs.Numbers.{has_req, has_flight, asked_at, standing}
-use Rattle.mp_script.specs.Distinct.{IsDistinct}
 use Rattle.mp_run.specs.Sound.{AreOf}
-use Rattle.mp_run.proofs.ByNumber.{or_false}
 use Rattle.mp_run.proofs.Standing.{other_asked, this_asked}
-use Rattle.mp_run.proofs.Distinct.{has-append}
 
 -- numbers of requests whose tries change stay
 pub has_with_tries : (req changed : ℕ) (tries : List Tried) (requests : List Asked) → has_req req (with_tries changed tries requests) ≡ has_req req requests
@@ -54,15 +50,6 @@ flights_set flights at lane fs =
           | inr new ↦ inr (same, new.1)
         ]
 
--- one flight more, or fewer
-flight-append : (fs : List Flight) (f : Flight) (req : ℕ) → has_flight req (fs ++ f ∷ []) ≡ true → (has_flight req fs ≡ true) ⊎ (f.req ≡ req)
-flight-append [] f req has_it = elim (or_true (f.req == req) false has_it) [ inl e ↦ inr (eqb-true f.req req e) | inr e ↦ absurd cc ]
-flight-append (g ∷ fs) f req has_it =
-    elim (or_true (g.req == req) (has_flight req (fs ++ f ∷ [])) has_it) [
-      | inl e ↦ inl (rw e refl)
-      | inr e ↦ elim (flight-append fs f req e) [ inl in_it ↦ inl (true_or (g.req == req) (has_flight req fs) in_it) | inr is ↦ inr is ]
-    ]
-
 pub flight-filter : (fs : List Flight) (gone req : ℕ) → has_flight req (filter (λ f. not (f.req == gone)) fs) ≡ true → (has_flight req fs ≡ true) × ((req == gone) ≡ false)
 flight-filter [] gone req has_it = absurd cc
 flight-filter (f ∷ fs) gone req has_it =
@@ -86,38 +73,9 @@ of-filter lane test (f ∷ fs) are =
       | inr off ↦ rw off (of-filter lane test fs are.1)
     ]
 
--- the numbers of flights
-pub has-flights : (fs : List Flight) (req : ℕ) → has (map (λ f. f.req) fs) req ≡ has_flight req fs
-has-flights [] req = refl
-has-flights (f ∷ fs) req = ap (λ b. (f.req == req) || b) (has-flights fs req)
-
 pub not_true : (b : Bool) → (b ≡ true → ⊥) → b ≡ false
 not_true true no_way = absurd (no_way refl)
 not_true false no_way = refl
-
-pub once-append : (fs : List Flight) (f : Flight) → IsDistinct (map (λ g. g.req) fs) → has_flight f.req fs ≡ false → IsDistinct (map (λ g. g.req) (fs ++ f ∷ []))
-once-append [] f once none = (refl, tt)
-once-append (g ∷ fs) f once none =
-    let parts = or_false (g.req == f.req) (has_flight f.req fs) none in (
-      not_true (has (map (λ h. h.req) (fs ++ f ∷ [])) g.req) (λ has_it. elim (flight-append fs f g.req (sym (has-flights (fs ++ f ∷ []) g.req) ∙ has_it)) [
-        | inl e ↦ let no_one = once.0 in let e2 : has (map (λ h. h.req) fs) g.req ≡ true = has-flights fs g.req ∙ e in cc
-        | inr e ↦ let e2 : (g.req == f.req) ≡ true = eq-eqb g.req f.req (sym e) in let no_one = parts.0 in cc
-      ]),
-      once-append fs f once.1 parts.1,
-    )
-
-pub once-filter : (fs : List Flight) (gone : ℕ) → IsDistinct (map (λ g. g.req) fs) → IsDistinct (map (λ g. g.req) (filter (λ f. not (f.req == gone)) fs))
-once-filter [] gone once = tt
-once-filter (f ∷ fs) gone once =
-    elim (cases_Bool (f.req == gone)) [
-      | inl on ↦ rw on (once-filter fs gone once.1)
-      | inr off ↦ rw off (
-        not_true (has (map (λ g. g.req) (filter (λ g. not (g.req == gone)) fs)) f.req)
-            (λ has_it. let e = flight-filter fs gone f.req (sym (has-flights (filter (λ g. not (g.req == gone)) fs) f.req) ∙ has_it) in
-            let no_one = once.0 in let e2 : has (map (λ h. h.req) fs) f.req ≡ true = has-flights fs f.req ∙ e.0 in cc),
-        once-filter fs gone once.1,
-      )
-    ]
 
 -- how a request with one more try stands
 last-more : (tries : List Tried) (t : Tried) → last_or None (tries ++ t ∷ []) ≡ Some t
@@ -133,31 +91,6 @@ stands_tried req t requests there =
 
 pub stands_other : (req changed : ℕ) (tries : List Tried) (requests : List Asked) → (req == changed) ≡ false → standing req (with_tries changed tries requests) ≡ standing req requests
 stands_other req changed tries requests other = ap (λ (a : Asked). outcome_of (last_or None a.tries)) (other_asked req changed tries requests other)
-
--- a flight more or fewer, at a lane
-pub after_more : (s : State) (at lane req : ℕ) (f : Flight) → has_flight req (get_or (set s.flights at (get_or s.flights at [] ++ f ∷ [])) lane []) ≡ true
-    → (has_flight req (flights_of lane s) ≡ true) ⊎ ((lane ≡ at) × (f.req ≡ req))
-after_more s at lane req f has_it =
-    elim (flights_set s.flights at lane (get_or s.flights at [] ++ f ∷ [])) [
-      | inl kept ↦ inl (rw kept.0 at has_it)
-      | inr new ↦ elim (flight-append (get_or s.flights at []) f req (rw new.1 at has_it)) [
-        | inl before ↦ inl (ap (λ n. has_flight req (get_or s.flights n [])) new.0 ∙ before)
-        | inr is ↦ inr (new.0, is)
-      ]
-    ]
-
-pub after_fewer : (s : State) (at lane gone req : ℕ) → has_flight gone (flights_of at s) ≡ true → ((other : ℕ) → has_flight gone (flights_of other s) ≡ true → at ≡ other)
-    → has_flight req (get_or (set s.flights at (filter (λ f. not (f.req == gone)) (get_or s.flights at []))) lane []) ≡ true → (has_flight req (flights_of lane s) ≡ true) × ((req == gone) ≡ false)
-after_fewer s at lane gone req flies alone has_it =
-    elim (flights_set s.flights at lane (filter (λ f. not (f.req == gone)) (get_or s.flights at []))) [
-      | inl kept ↦ let before : has_flight req (flights_of lane s) ≡ true = rw kept.0 at has_it in (
-        before,
-        not_true (req == gone) (λ e. let is : req ≡ gone = eqb-true req gone e in let here : lane ≡ at = sym (alone lane (ap (λ n. has_flight n (flights_of lane s)) (sym is) ∙ before)) in
-            let none : has_flight req (flights_of lane s) ≡ false = ap (has_flight req) (kept.1 here) in cc),
-      )
-      | inr new ↦ let it = flight-filter (get_or s.flights at []) gone req (rw new.1 at has_it) in
-          (ap (λ n. has_flight req (get_or s.flights n [])) new.0 ∙ it.0, it.1)
-    ]
 
 -- what holds of each lane's flights holds after a change of one
 pub each_lane : (P : ℕ → List Flight → Type 0) (flights : List (List Flight)) (at : ℕ) (fs : List Flight) → ((lane : ℕ) → P lane (get_or flights lane [])) → P at fs → (lane : ℕ) → P lane (get_or (set flights at fs) lane [])
@@ -176,74 +109,6 @@ has_between (x ∷ xs) ys n m e =
 pub has_middle : (xs ys : List ℕ) (n : ℕ) → has (xs ++ n ∷ ys) n ≡ true
 has_middle [] ys n = rw (eq-eqb n n refl) refl
 has_middle (x ∷ xs) ys n = true_or (x == n) (has (xs ++ n ∷ ys) n) (has_middle xs ys n)
-
-pub has_neither : (xs ys : List ℕ) (n : ℕ) → has xs n ≡ false → has ys n ≡ false → has (xs ++ ys) n ≡ false
-has_neither xs ys n p q = has-append xs ys n ∙ rw (p, q) refl
-
-pub distinct_without : (xs ys : List ℕ) (n : ℕ) → IsDistinct (xs ++ n ∷ ys) → IsDistinct (xs ++ ys)
-distinct_without [] ys n d = d.1
-distinct_without (x ∷ xs) ys n d =
-    (not_true (has (xs ++ ys) x) (λ e. let e2 : has (xs ++ n ∷ ys) x ≡ true = has_between xs ys n x e in let no_one = d.0 in cc), distinct_without xs ys n d.1)
-
--- a number that is there isn't one that isn't
-pub differs : (xs : List ℕ) (n m : ℕ) → has xs n ≡ true → has xs m ≡ false → (n == m) ≡ false
-differs xs n m p q = not_true (n == m) (λ e. let same : n ≡ m = eqb-true n m e in let q2 : has xs n ≡ false = ap (has xs) same ∙ q in cc)
-
--- one number more in the middle
-pub has_insert : (xs ys : List ℕ) (n m : ℕ) → has (xs ++ n ∷ ys) m ≡ true → (n ≡ m) ⊎ (has (xs ++ ys) m ≡ true)
-has_insert [] ys n m e = elim (or_true (n == m) (has ys m) e) [ inl same ↦ inl (eqb-true n m same) | inr rest ↦ inr rest ]
-has_insert (x ∷ xs) ys n m e =
-    elim (or_true (x == m) (has (xs ++ n ∷ ys) m) e) [
-      | inl same ↦ inr (rw same refl)
-      | inr rest ↦ elim (has_insert xs ys n m rest) [ inl is ↦ inl is | inr old ↦ inr (true_or (x == m) (has (xs ++ ys) m) old) ]
-    ]
-
-pub distinct_with : (xs ys : List ℕ) (n : ℕ) → IsDistinct (xs ++ ys) → has (xs ++ ys) n ≡ false → IsDistinct (xs ++ n ∷ ys)
-distinct_with [] ys n d new = (new, d)
-distinct_with (x ∷ xs) ys n d new =
-    let parts = or_false (x == n) (has (xs ++ ys) n) new in (
-      not_true (has (xs ++ n ∷ ys) x) (λ e. elim (has_insert xs ys n x e) [
-        | inl is ↦ let same : (x == n) ≡ true = eq-eqb x n (sym is) in let off : (x == n) ≡ false = parts.0 in cc
-        | inr old ↦ let no_one : has (xs ++ ys) x ≡ false = d.0 in cc
-      ]),
-      distinct_with xs ys n d.1 parts.1,
-    )
-
--- ---- flights that stay
-
-pub same_req : (f g : Flight) → is_flight f g ≡ true → (g.req == f.req) ≡ true
-same_req f g same = third (g.slot == f.slot) (g.version == f.version) (g.req == f.req) (g.lane == f.lane) same
-  where
-    third : (a b c d : Bool) → (a && b && c && d) ≡ true → c ≡ true
-    third a b true d e = refl
-    third true true false d e = absurd cc
-    third true false false d e = absurd cc
-    third false b false d e = absurd cc
-
-pub is_itself : (f : Flight) → is_flight f f ≡ true
-is_itself f = rw (eq-eqb f.slot f.slot refl, eq-eqb f.version f.version refl, eq-eqb f.req f.req refl, eq-eqb f.lane f.lane refl) refl
-
-filter-keeps : (fs : List Flight) (gone : ℕ) (f : Flight) → (f.req == gone) ≡ false → list_any (is_flight f) fs ≡ true → list_any (is_flight f) (filter (λ g. not (g.req == gone)) fs) ≡ true
-filter-keeps [] gone f other there = absurd cc
-filter-keeps (g ∷ fs) gone f other there =
-    elim (cases_Bool (g.req == gone)) [
-      | inl on ↦ elim (or_true (is_flight f g) (list_any (is_flight f) fs) there) [
-        | inl same ↦ let e : g.req ≡ f.req = eqb-true g.req f.req (same_req f g same) in let off : (g.req == gone) ≡ false = rw e other in cc
-        | inr rest ↦ rw on (filter-keeps fs gone f other rest)
-      ]
-      | inr off ↦ rw off (elim (or_true (is_flight f g) (list_any (is_flight f) fs) there) [
-        | inl same ↦ rw same refl
-        | inr rest ↦ true_or (is_flight f g) (list_any (is_flight f) (filter (λ h. not (h.req == gone)) fs)) (filter-keeps fs gone f other rest)
-      ])
-    ]
-
-pub still_flies : (s : State) (at gone : ℕ) (f : Flight) → (f.req == gone) ≡ false → list_any (is_flight f) (flights_of f.lane s) ≡ true
-    → list_any (is_flight f) (get_or (set s.flights at (filter (λ g. not (g.req == gone)) (get_or s.flights at []))) f.lane []) ≡ true
-still_flies s at gone f other there =
-    elim (flights_set s.flights at f.lane (filter (λ g. not (g.req == gone)) (get_or s.flights at []))) [
-      | inl kept ↦ rw kept.0 there
-      | inr new ↦ rw new.1 (filter-keeps (get_or s.flights at []) gone f other (ap (λ n. list_any (is_flight f) (get_or s.flights n [])) (sym new.0) ∙ there))
-    ]
 
 -- the flights that were there, and the new one
 flight-front : (fs gs : List Flight) (req : ℕ) → has_flight req fs ≡ true → has_flight req (fs ++ gs) ≡ true

@@ -1,5 +1,5 @@
 -- The request of a number.
-use Rattle.std.proofs.Common.{◌≡◌, ℕ, ◌==◌, List, [], ◌∷◌, inl, inr, refl}
+use Rattle.std.proofs.Common.{[], ◌≡◌, ℕ, ◌==◌, List, ◌∷◌, inl, inr, refl}
 use Rattle.std.proofs.lemmas.Bool.{cases_Bool, eqb-true}
 use Rattle.mp_words.specs.Request.{Asked}
 use Rattle.mp_legal.specs.Numbers.{asked_at}

@@ -1,5 +1,5 @@
 -- The statuses of a script that are still to come.
-use Rattle.std.proofs.Common.{◌≡◌, ℕ, zero, suc, ◌+◌, ◌-◌, ◌<◌, ◌≤◌, Bool, true, false, ◌==◌, cond, List, [], ◌∷◌, ◌++◌, inl, inr, map, find, length, Option, Some, None, unwrap_or, refl, sym, ap, ◌∙◌, subst, append-nil, nat_lt, arith}
+use Rattle.std.proofs.Common.{[], ◌≡◌, ℕ, zero, suc, ◌+◌, ◌-◌, ◌<◌, ◌≤◌, Bool, true, false, ◌==◌, cond, List, ◌∷◌, ◌++◌, inl, inr, map, find, length, Option, Some, None, unwrap_or, refl, sym, ap, ◌∙◌, subst, append-nil, nat_lt, arith}
 use Rattle.std.specs.List.{last_or, enumerate_from, range_with_len}
 use Rattle.std.proofs.lemmas.Bool.{cases_Bool, eqb-true, and_parts}
 use Rattle.std.proofs.lemmas.Bool.Decides.{nat_tests}

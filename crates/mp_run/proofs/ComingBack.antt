@@ -1,5 +1,5 @@
 -- A flight that comes back uses up a scripted status of a path.
-use Rattle.std.proofs.Common.{◌≡◌, ℕ, ◌+◌, ◌-◌, ◌<◌, ◌≤◌, ◌||◌, Bool, true, false, ◌==◌, cond, List, [], ◌∷◌, ◌++◌, filter, find, length, Option, Some, None, unwrap_or, refl, sym, ap, ◌∙◌, subst, nat_lt, nat_le, arith, if◌then◌else◌}
+use Rattle.std.proofs.Common.{[], ◌≡◌, ℕ, ◌+◌, ◌-◌, ◌<◌, ◌≤◌, ◌||◌, Bool, true, false, ◌==◌, cond, List, ◌∷◌, ◌++◌, filter, find, length, Option, Some, None, unwrap_or, refl, sym, ap, ◌∙◌, subst, nat_lt, nat_le, arith, if◌then◌else◌}
 use Rattle.std.specs.List.{last_or}
 use Rattle.std.proofs.lemmas.Bool.{both_ways}
 use Rattle.std.proofs.lemmas.Bool.Decides.{nat_tests}

@@ -1,5 +1,5 @@
 -- What turns and the drain cost, beside the tries that are listed.
-use Rattle.std.proofs.Common.{◌≡◌, ℕ, zero, suc, ◌+◌, ◌*◌, ◌<◌, ◌≤◌, ◌&&◌, ◌==◌, not, true, false, cond, List, [], ◌∷◌, ◌++◌, inl, inr, map, filter, find, length, get_or, set, nat_lt, eq-eqb, Option, Some, None, Result, Ok, Err, refl, sym, ap, ◌∙◌, subst, arith}
+use Rattle.std.proofs.Common.{[], ◌≡◌, ℕ, zero, suc, ◌+◌, ◌*◌, ◌<◌, ◌≤◌, ◌&&◌, ◌==◌, not, true, false, cond, List, ◌∷◌, ◌++◌, inl, inr, map, filter, find, length, get_or, set, nat_lt, eq-eqb, Option, Some, None, Result, Ok, Err, refl, sym, ap, ◌∙◌, subst, arith}
 use Rattle.std.specs.List.{list_any, count_by}
 use Rattle.std.proofs.lemmas.Bool.{cases_Bool}
 use Rattle.std.proofs.lemmas.List.{length-append, get_or-set_same}
@@ -31,7 +31,7 @@ use Rattle.mp_script.specs.declared.script.Line.TheVariants as line
 use Rattle.mp_script.specs.declared.script.Numbered1.{Numbered1}
 use Rattle.mp_script.specs.Facts.{submit_of}
 use Rattle.mp_legal.specs.Answers as answers
-use Rattle.mp_legal.specs.Answers.{hop_statuses, class_of_hop}
+use Rattle.mp_legal.specs.Answers.{hop_statuses}
 use Rattle.mp_legal.specs.Enough.{is_listed, lists}
 use Rattle.mp_legal.specs.Numbers.{has_req, asked_at, standing}
 use Rattle.mp_legal.specs.PlainState.{State, request_of, with_tries, paths_of}

@@ -1,5 +1,5 @@
 -- Numbers that differ.
-use Rattle.std.proofs.Common.{◌≡◌, ℕ, Bool, true, false, ◌||◌, ◌==◌, List, [], ◌∷◌, ◌++◌, map, refl, sym, ap, ◌∙◌, arith}
+use Rattle.std.proofs.Common.{[], ◌≡◌, ℕ, Bool, true, false, ◌||◌, ◌==◌, List, ◌∷◌, ◌++◌, map, refl, sym, ap, ◌∙◌, arith}
 use Rattle.std.proofs.lemmas.Bool.Decides.{nat_tests}
 use Rattle.mp_words.specs.Request.{Asked}
 use Rattle.mp_checks.specs.Marks.{has}
@@ -29,13 +29,6 @@ distinct_middle (x ∷ xs) n ys d =
     let parts = or_false (has xs x) (has (n ∷ ys) x) (sym (has-append xs (n ∷ ys) x) ∙ d.0) in
     let other : (n == x) ≡ false = (or_false (n == x) (has ys x) parts.1).0 in
     (or_join (x == n) (has xs n) (eq_swap n x other) rest.0, rest.1)
-
--- one more number that wasn't there
-pub distinct_more : (xs : List ℕ) (n : ℕ) → IsDistinct xs → has xs n ≡ false → IsDistinct (xs ++ n ∷ [])
-distinct_more [] n d new = (refl, tt)
-distinct_more (x ∷ xs) n d new =
-    let parts = or_false (x == n) (has xs n) new in
-    (has-append xs (n ∷ []) x ∙ or_join (has xs x) (has (n ∷ []) x) d.0 (or_join (n == x) false (eq_swap x n parts.0) refl), distinct_more xs n d.1 parts.1)
 
 -- the numbers of requests
 pub has-reqs : (requests : List Asked) (req : ℕ) → has (map (λ a. a.req) requests) req ≡ has_req req requests

@@ -1,5 +1,5 @@
 -- The plain run loses no request.
-use Rattle.std.proofs.Common.{◌≡◌, ℕ, zero, suc, ◌+◌, ◌<◌, ◌≤◌, Bool, true, false, not, ◌==◌, cond, List, [], ◌∷◌, inl, inr, map, length, get_or, replicate, Option, Some, None, refl, sym, ap, ◌∙◌, subst, eq-eqb, arith}
+use Rattle.std.proofs.Common.{[], ◌≡◌, ℕ, zero, suc, ◌+◌, ◌<◌, ◌≤◌, Bool, true, false, not, ◌==◌, cond, List, ◌∷◌, inl, inr, map, length, get_or, replicate, Option, Some, None, refl, sym, ap, ◌∙◌, subst, eq-eqb, arith}
 use Rattle.std.specs.Prelude.{is_some}
 use Rattle.std.specs.List.{list_any, range_with_len, AllByRecursion}
 use Rattle.std.proofs.lemmas.Bool.{cases_Bool, eqb-true, cases_eq}
@@ -23,7 +23,7 @@ use Rattle.mp_legal.specs.Turns.{Turn, longest, turns_of}
 use Rattle.mp_legal.specs.Numbers.{has_req, has_flight, standing}
 use Rattle.mp_run.specs.LaneTurns.{submit_in, turns_submits}
 use Rattle.mp_run.specs.Quiet.{IsQuiet, closes}
-use Rattle.mp_run.specs.Sound.{IsSound, AreOf, AreAloft}
+use Rattle.mp_run.specs.Sound.{AreOf, AreAloft}
 use Rattle.mp_run.specs.Told.{IsOver, AreNumbered}
 use Rattle.mp_run.proofs.KeptCalls.{AreHome, Keeps, Stays, keeps_both, keeps_call, keeps_each, keeps_stays, stays_reap, calls_of}
 use Rattle.mp_run.proofs.KeptTurns.{Turned, turn_keeps, end_quiet, all_end}
@@ -45,18 +45,6 @@ none_there (suc n) (suc lane) = none_there n lane
 pub opening_quiet : (i : Inputs) → IsQuiet (opening i)
 opening_quiet i lane = none_there 17 lane
 
--- the opening is sound
-pub opening_sound : (i : Inputs) → IsSound (opening i) []
-opening_sound i = record {
-  small = λ req e. absurd cc;
-  sent = λ lane req e. let there : has_flight req [] ≡ true = ap (has_flight req) (sym (none_there 17 lane)) ∙ e in cc;
-  home = λ lane. subst (AreOf lane) (sym (none_there 17 lane)) tt;
-  once = λ lane. subst (λ (fs : List Flight). IsDistinct (map (λ (f : Flight). f.req) fs)) (sym (none_there 17 lane)) tt;
-  alone = λ lane other req p q. let there : has_flight req [] ≡ true = ap (has_flight req) (sym (none_there 17 lane)) ∙ p in cc;
-  waits = λ req e. absurd cc;
-  queued = tt;
-}
-
 -- ---- the turns
 
 -- What holds between two turns: each request that was sent flies, each flight is of its lane, and there are seventeen lanes.
@@ -76,10 +64,6 @@ turn_kept : (i : Inputs) (lane : ℕ) (s : State) (turn : Option Numbered1) → 
 turn_kept i lane s turn lt kept =
     let turned : Turned lane (submit_in turn) s (turn_step i lane s turn).state = turn_keeps i lane s turn kept.home in
     record { home = turned.home kept.home; aloft = turned.aloft (omega (arith, lt, kept.lanes)) kept.aloft; lanes = turned.lanes ∙ kept.lanes }
-
-lower : (m n : ℕ) (ts : List Turn) → m ≤ n → AreOfLanes m ts → AreOfLanes n ts
-lower m n [] le of = tt
-lower m n (t ∷ ts) le of = (omega (arith, of.0, le), lower m n ts le of.1)
 
 turns_kept : (i : Inputs) (s : State) (ts : List Turn) → AreOfLanes 17 ts → IsKept s → IsKept (state_after s (taken i s ts))
 turns_kept i s [] of kept = kept

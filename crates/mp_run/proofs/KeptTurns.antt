@@ -1,5 +1,5 @@
 -- What turns leave of flights and of requests.
-use Rattle.std.proofs.Common.{◌≡◌, ◌≢◌, ℕ, ◌<◌, true, false, ◌==◌, List, [], ◌∷◌, ◌++◌, inl, inr, map, length, get_or, Option, Some, None, refl, sym, ap, ◌∙◌, subst, eq-eqb, nat_lt, arith}
+use Rattle.std.proofs.Common.{[], ◌≡◌, ◌≢◌, ℕ, ◌<◌, true, false, ◌==◌, List, ◌∷◌, ◌++◌, inl, inr, map, length, get_or, Option, Some, None, refl, sym, ap, ◌∙◌, subst, eq-eqb, nat_lt, arith}
 use Rattle.std.specs.Prelude.{Result, Ok, Err}
 use Rattle.std.proofs.lemmas.Bool.{cases_Bool}
 use Rattle.std.proofs.lemmas.Bool.Decides.{nat_tests}
@@ -101,10 +101,6 @@ turned i at s mine start starts home =
       home = λ home. keeps.home (home_start at.lane s mine start starts home);
       other = λ home l apart. keeps.other l apart ∙ ap (λ (fs : List (List Flight)). get_or fs l []) starts.flights;
     }
-
-lane_at : (lane : ℕ) (turn : Option Numbered1) → (place_of lane turn).lane ≡ lane
-lane_at lane None = refl
-lane_at lane (Some l) = refl
 
 pub turn_keeps : (i : Inputs) (lane : ℕ) (s : State) (turn : Option Numbered1) → AreHome s → Turned lane (submit_in turn) s (turn_step i lane s turn).state
 turn_keeps i lane s None home = turned i (place_of lane None) s [] (turn_start i lane s None) (starts_turn i lane s None) home

@@ -1,9 +1,8 @@
 -- Turns that are taken one by one.
-use Rattle.std.proofs.Common.{◌≡◌, ◌≢◌, ℕ, ◌<◌, ◌≤◌, Bool, true, false, ◌==◌, ◌||◌, List, [], ◌∷◌, ◌++◌, inl, inr, map, length, get_or, set, Option, None, refl, sym, ap, ◌∙◌, append_assoc, eq-eqb, arith, subst}
-use Rattle.std.specs.List.{flat_map, range_with_len}
-use Rattle.std.proofs.lemmas.Bool.{cases_Bool, eqb-true, cases_eq}
-use Rattle.std.proofs.lemmas.List.{get_or-set_same, get_or-set_other, ext_get_or, length-set, length-map}
-use Rattle.std.proofs.lemmas.List.FromFn.{length-range_with_len, get_or-map-range_with_len}
+use Rattle.std.proofs.Common.{[], ◌≡◌, ◌≢◌, ℕ, ◌<◌, Bool, true, false, ◌==◌, ◌||◌, List, ◌∷◌, ◌++◌, inl, inr, map, length, get_or, set, None, refl, sym, ap, ◌∙◌, append_assoc, eq-eqb}
+use Rattle.std.specs.List.{flat_map}
+use Rattle.std.proofs.lemmas.Bool.{cases_Bool, eqb-true}
+use Rattle.std.proofs.lemmas.List.{get_or-set_same, get_or-set_other}
 use Rattle.mp_checks.specs.Marks.{has}
 use Rattle.mp_words.specs.Request.{Asked, Tried}
 use Rattle.mp_record.specs.declared.event.Event.{Event}
@@ -14,28 +13,22 @@ use Rattle.mp_legal.specs.Turns.{Turn}
 use Rattle.mp_legal.specs.Units.{Paid, pay_turn}
 use Rattle.mp_legal.specs.Numbers.{has_req}
 use Rattle.mp_script.specs.Distinct.{IsDistinct}
-use Rattle.mp_run.specs.declared.engine.Engine.{Engine}
-use Rattle.mp_run.specs.Engine.{state_of}
-use Rattle.mp_run.specs.OnTurns.{Stage, stage_of, turns_from, IsOn}
-use Rattle.mp_run.specs.Taking.{left_or, lefts_or, Takes}
+use Rattle.mp_run.specs.OnTurns.{Stage, turns_from, IsOn}
 use Rattle.mp_run.proofs.Distinct.{has-reqs}
 use Rattle.mp_run.proofs.Changes.{not_true}
 
-pub on_first : (i : Inputs) (all : List Turn) (start : Stage) → IsOn i all all start start
-on_first i all start = record { state = refl; lefts = refl; rows = refl; orders = refl; noted = λ lane. refl }
-
 -- what a turn leads to
-record Leads (p : Paid) (lane : ℕ) (now after : Stage) (before events : List Event) : Type 0 where
-  state : after.state ≡ p.step.state
-  lefts : after.lefts ≡ set now.lefts lane p.left
-  rows : after.rows ≡ now.rows ++ p.step.rows
-  orders : after.orders ≡ now.orders ++ p.step.orders
-  lanes : after.lanes ≡ set now.lanes lane events
-  was : before ≡ get_or now.lanes lane []
-  noted : events ≡ before ++ p.step.events
+pub record Leads (p : Paid) (lane : ℕ) (now after : Stage) (before events : List Event) : Type 0 where
+  pub state : after.state ≡ p.step.state
+  pub lefts : after.lefts ≡ set now.lefts lane p.left
+  pub rows : after.rows ≡ now.rows ++ p.step.rows
+  pub orders : after.orders ≡ now.orders ++ p.step.orders
+  pub lanes : after.lanes ≡ set now.lanes lane events
+  pub was : before ≡ get_or now.lanes lane []
+  pub noted : events ≡ before ++ p.step.events
 
 -- one turn is taken
-leads_on : (i : Inputs) (all rest : List Turn) (turn : Turn) (start now after : Stage) (before events : List Event) → IsOn i all (turn ∷ rest) start now → turn.lane < length now.lanes
+pub leads_on : (i : Inputs) (all rest : List Turn) (turn : Turn) (start now after : Stage) (before events : List Event) → IsOn i all (turn ∷ rest) start now → turn.lane < length now.lanes
     → Leads (pay_turn i turn.lane now.state turn.line (get_or now.lefts turn.lane None)) turn.lane now after before events → IsOn i all rest start after
 leads_on i all rest turn start now after before events on lt leads =
     let p : Paid = pay_turn i turn.lane now.state turn.line (get_or now.lefts turn.lane None) in
@@ -60,43 +53,6 @@ leads_on i all rest turn start now after before events on lt leads =
   where
     differs : (a b : ℕ) → a ≡ b → (a == b) ≡ false → ⊥
     differs a b e test = let is : (a == b) ≡ true = eq-eqb a b e in cc
-
--- ---- the units of all lanes
-
-pub lefts-length : (n : ℕ) (spent : List Bool) (e : Engine) → length (lefts_or n spent e) ≡ n
-lefts-length n spent e = length-map (range_with_len 0 n) (λ lane. left_or spent lane e) ∙ length-range_with_len 0 n
-
-pub lefts_at : (n : ℕ) (spent : List Bool) (e : Engine) (lane : ℕ) → lane < n → get_or (lefts_or n spent e) lane None ≡ left_or spent lane e
-lefts_at n spent e lane lt = get_or-map-range_with_len (λ l. left_or spent l e) 0 n lane lane None lt (omega arith)
-
-lefts_next : (n : ℕ) (lane : ℕ) (p : Paid) (spent now : List Bool) (a b : Engine) (old new : List Event) → n ≤ 16 → lane < n → Takes lane p spent now a b old new → lefts_or n now b ≡ set (lefts_or n spent a) lane p.left
-lefts_next n lane p spent now a b old new few lt takes =
-    let len : length (lefts_or n spent a) ≡ n = lefts-length n spent a in
-    ext_get_or None (lefts_or n now b) (set (lefts_or n spent a) lane p.left) (lefts-length n now b ∙ sym (length-set (lefts_or n spent a) lane p.left ∙ len))
-    (λ k low. let below : k < n = omega (arith, low, lefts-length n now b) in
-    lefts_at n now b k below ∙ elim (cases_eq k lane) [
-      | inl same ↦ ap (λ m. left_or now m b) same ∙ takes.left ∙ sym (ap (λ m. get_or (set (lefts_or n spent a) lane p.left) m None) same ∙ get_or-set_same (lefts_or n spent a) lane p.left None (omega (arith, len, lt)))
-      | inr apart ↦ takes.others k (omega (arith, below, few)) apart ∙ sym (get_or-set_other (lefts_or n spent a) lane k p.left None apart ∙ lefts_at n spent a k below)
-    ])
-
--- one turn that the engine takes
-pub on_next : (i : Inputs) (all rest : List Turn) (turn : Turn) (start : Stage) (n : ℕ) (spent now : List Bool) (a b : Engine) (lanes : List (List Event)) (before events : List Event)
-    → n ≤ 16 → turn.lane < n → length lanes ≡ n → IsOn i all (turn ∷ rest) start (stage_of spent a n lanes) → before ≡ get_or lanes turn.lane []
-    → Takes turn.lane (pay_turn i turn.lane (state_of a) turn.line (left_or spent turn.lane a)) spent now a b before events
-    → IsOn i all rest start (stage_of now b n (set lanes turn.lane events))
-on_next i all rest turn start n spent now a b lanes before events few lt len on was takes =
-    let at : left_or spent turn.lane a ≡ get_or (lefts_or n spent a) turn.lane None = sym (lefts_at n spent a turn.lane lt) in
-    let told : Takes turn.lane (pay_turn i turn.lane (state_of a) turn.line (get_or (lefts_or n spent a) turn.lane None)) spent now a b before events = subst (λ (left : Option ℕ). Takes turn.lane (pay_turn i turn.lane (state_of a) turn.line left) spent now a b before events) at takes in
-    let p : Paid = pay_turn i turn.lane (state_of a) turn.line (get_or (lefts_or n spent a) turn.lane None) in
-    leads_on i all rest turn start (stage_of spent a n lanes) (stage_of now b n (set lanes turn.lane events)) before events on (omega (arith, lt, len)) (record {
-      state = told.goes.state;
-      lefts = lefts_next n turn.lane p spent now a b before events few lt told;
-      rows = told.goes.rows;
-      orders = told.goes.orders;
-      lanes = refl;
-      was = was;
-      noted = told.goes.noted;
-    })
 
 -- ---- the numbers of requests
 

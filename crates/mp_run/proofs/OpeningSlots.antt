@@ -1,5 +1,5 @@
 -- The slots and paths of the opening.
-use Rattle.std.proofs.Common.{◌≡◌, ℕ, zero, suc, ◌≤◌, List, [], ◌∷◌, ◌++◌, take, length, replicate, get_or, Option, None, refl, ap, append_assoc, arith}
+use Rattle.std.proofs.Common.{[], ◌≡◌, ℕ, zero, suc, ◌≤◌, List, ◌∷◌, ◌++◌, take, length, replicate, get_or, Option, None, refl, ap, append_assoc, arith}
 use Rattle.std.proofs.lemmas.List.{take-append-le, take_all}
 use Rattle.std.specs.List.{range_with_len}
 use Rattle.mp_words.specs.declared.row.Row.{Row}

@@ -1,5 +1,5 @@
 -- A run for which the units are enough is the plain run.
-use Rattle.std.proofs.Common.{◌≡◌, ℕ, zero, suc, ◌+◌, ◌<◌, ◌≤◌, true, ◌==◌, not, nat_lt, List, [], ◌∷◌, ◌++◌, inl, inr, length, replicate, get_or, set, Option, Some, None, Result, Ok, refl, sym, ap, ◌∙◌, arith}
+use Rattle.std.proofs.Common.{[], ◌≡◌, ℕ, zero, suc, ◌+◌, ◌<◌, ◌≤◌, true, ◌==◌, not, nat_lt, List, ◌∷◌, ◌++◌, inl, inr, length, replicate, get_or, set, Option, Some, None, Result, Ok, refl, sym, ap, ◌∙◌, arith}
 use Rattle.std.specs.Prelude.{position, is_none, slice_get}
 use Rattle.std.specs.List.{enumerate_from, range_with_len, flat_map, position_or_len, prefix_len}
 use Rattle.std.proofs.lemmas.Bool.{cases_Bool, eqb-true}

@@ -1,5 +1,5 @@
 -- How requests stand.
-use Rattle.std.proofs.Common.{◌≡◌, ℕ, true, false, ◌==◌, List, [], ◌∷◌, inl, inr, refl, arith}
+use Rattle.std.proofs.Common.{[], ◌≡◌, ℕ, true, false, ◌==◌, List, ◌∷◌, inl, inr, refl, arith}
 use Rattle.std.proofs.lemmas.Bool.{cases_Bool}
 use Rattle.std.proofs.lemmas.Bool.Decides.{nat_tests}
 use Rattle.mp_words.specs.declared.trying.Outcome.TheVariants.{Sent}
@@ -15,9 +15,6 @@ sent_there req (a ∷ requests) sent =
       | inl same_one ↦ rw same_one refl
       | inr other_one ↦ rw other_one (sent_there req requests (rw other_one at sent))
     ]
-
-eq_swap : (a b : ℕ) → (a == b) ≡ false → (b == a) ≡ false
-eq_swap a b e = grind (arith, nat_tests)
 
 -- a number that is this one isn't that one
 apart : (n req changed : ℕ) → (n == req) ≡ true → (req == changed) ≡ false → (n == changed) ≡ false

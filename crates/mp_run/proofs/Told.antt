@@ -1,5 +1,5 @@
 -- The requests that a run tells.
-use Rattle.std.proofs.Common.{◌≡◌, ℕ, false, List, [], ◌∷◌, ◌++◌, inl, inr, refl, sym, ap, ◌∙◌, append_assoc, eq-eqb, subst, arith}
+use Rattle.std.proofs.Common.{[], ◌≡◌, ℕ, false, List, ◌∷◌, ◌++◌, inl, inr, refl, sym, ap, ◌∙◌, append_assoc, eq-eqb, subst, arith}
 use Rattle.std.specs.List.{AllByRecursion}
 use Rattle.mp_run.proofs.TurnFacts.{count, has_count, none_count}
 use Rattle.std.proofs.lemmas.Bool.{cases_Bool}

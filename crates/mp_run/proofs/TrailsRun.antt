@@ -1,5 +1,5 @@
 -- What a whole run leaves of tries, and tells of them.
-use Rattle.std.proofs.Common.{◌≡◌, ℕ, zero, suc, ◌+◌, ◌<◌, ◌≤◌, Bool, true, false, ◌&&◌, ◌||◌, ◌==◌, cond, List, [], ◌∷◌, ◌++◌, inl, inr, map, length, replicate, Option, Some, None, refl, sym, ap, ◌∙◌, append_assoc, append-nil, subst, eq-eqb, arith}
+use Rattle.std.proofs.Common.{[], ◌≡◌, ℕ, zero, suc, ◌+◌, ◌<◌, ◌≤◌, Bool, true, false, ◌&&◌, ◌||◌, ◌==◌, cond, List, ◌∷◌, ◌++◌, inl, inr, map, length, replicate, Option, Some, None, refl, sym, ap, ◌∙◌, append_assoc, append-nil, subst, eq-eqb, arith}
 use Rattle.std.specs.Prelude.{Result, Ok, Err, count_by, is_some}
 use Rattle.std.specs.List.{last_or, list_any, flat_map, range_with_len, AllByRecursion}
 use Rattle.std.proofs.lemmas.Bool.{cases_Bool}

@@ -1,5 +1,5 @@
 -- What holds of all turns.
-use Rattle.std.proofs.Common.{◌≡◌, ℕ, zero, suc, ◌+◌, ◌<◌, ◌≤◌, max, Bool, true, false, ◌==◌, List, [], ◌∷◌, ◌++◌, inl, inr, map, length, fold, Option, Some, None, refl, sym, ap, ◌∙◌, cond, add-one, arith, eq-eqb}
+use Rattle.std.proofs.Common.{[], ◌≡◌, ℕ, zero, suc, ◌+◌, ◌<◌, ◌≤◌, max, Bool, true, false, ◌==◌, List, ◌∷◌, ◌++◌, inl, inr, map, length, fold, Option, Some, None, refl, sym, ap, ◌∙◌, cond, add-one, arith, eq-eqb}
 use Rattle.std.specs.Prelude.{slice_get}
 use Rattle.std.specs.List.{enumerate_from, range_with_len, flat_map, AllByRecursion}
 use Rattle.std.proofs.lemmas.Bool.{cases_Bool, eqb-true}

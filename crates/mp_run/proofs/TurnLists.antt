@@ -1,12 +1,11 @@
 -- The list of turns.
-use Rattle.std.proofs.Common.{◌≡◌, ℕ, zero, suc, ◌+◌, ◌<◌, ◌≤◌, false, ◌==◌, List, [], ◌∷◌, ◌++◌, take, length, get_or, Some, None, refl, sym, ap, ◌∙◌, append-nil, add-one, arith}
+use Rattle.std.proofs.Common.{[], ◌≡◌, ℕ, zero, suc, ◌+◌, ◌<◌, ◌≤◌, false, ◌==◌, List, ◌∷◌, ◌++◌, take, length, get_or, None, refl, sym, ap, ◌∙◌, append-nil, add-one, arith}
 use Rattle.std.specs.Prelude.{slice_get}
 use Rattle.std.specs.List.{enumerate_from, range_with_len, flat_map}
 use Rattle.std.proofs.lemmas.Bool.Decides.{nat_tests}
 use Rattle.std.proofs.lemmas.List.{take_more, length-take-le}
 use Rattle.std.proofs.lemmas.Grind.{flat_map-append}
 use Rattle.mp_script.specs.declared.script.LanePlan.{LanePlan}
-use Rattle.mp_script.specs.declared.script.Numbered1.{Numbered1}
 use Rattle.mp_legal.specs.Turns.{Turn, turn_in, round_of}
 
 -- with an index more
@@ -16,25 +15,13 @@ enumerate-more n (y ∷ xs) x =
     let e : n + 1 + length xs ≡ n + suc (length xs) = omega arith in
     ap (λ rest. (n, y) ∷ rest) (enumerate-more (n + 1) xs x ∙ ap (λ m. enumerate_from (n + 1) xs ++ (m, x) ∷ []) e)
 
-pub get_at : {X : Type 0} (xs : List X) (place : ℕ) (x : X) → place < length xs → x ≡ get_or xs place x → slice_get xs place ≡ Some x
-get_at [] place x lt is = absurd (omega arith)
-get_at (y ∷ xs) zero x lt is = ap (λ z. Some z) (sym is)
-get_at (y ∷ xs) (suc place) x lt is = get_at xs place x (omega arith) is
-
 pub get_past : {X : Type 0} (xs : List X) (place : ℕ) → length xs ≤ place → slice_get xs place ≡ None
 get_past [] place le = refl
 get_past (y ∷ xs) zero le = absurd (omega arith)
 get_past (y ∷ xs) (suc place) le = get_past xs place (omega arith)
 
-test_lt : (a b : ℕ) → a < b → (a == b) ≡ false
-test_lt a b lt = grind (arith, nat_tests)
-
 test_gt : (a b : ℕ) → b < a → (a == b) ≡ false
 test_gt a b lt = grind (arith, nat_tests)
-
--- the turn of a lane that has a line in the round, and of one that is over
-pub line_in : (round lane : ℕ) (plan : LanePlan) (l : Numbered1) → round < length plan.lines → l ≡ get_or plan.lines round l → turn_in round (lane, plan) ≡ record { lane = lane; line = Some l } ∷ []
-line_in round lane plan l lt is = rw (test_lt round (length plan.lines) lt, get_at plan.lines round l lt is) refl
 
 pub none_in : (round lane : ℕ) (plan : LanePlan) → length plan.lines < round → turn_in round (lane, plan) ≡ []
 none_in round lane plan lt = rw (test_gt round (length plan.lines) lt, get_past plan.lines round (omega arith)) refl

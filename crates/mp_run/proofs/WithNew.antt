@@ -1,5 +1,5 @@
 -- Requests by number, with one more.
-use Rattle.std.proofs.Common.{◌≡◌, ℕ, Bool, true, false, ◌||◌, ◌==◌, nat_lt, List, [], ◌∷◌, inl, inr, refl, ap, ◌∙◌, eq-eqb}
+use Rattle.std.proofs.Common.{[], ◌≡◌, ℕ, Bool, true, false, ◌||◌, ◌==◌, nat_lt, List, ◌∷◌, inl, inr, refl, ap, ◌∙◌, eq-eqb}
 use Rattle.std.proofs.lemmas.Bool.{cases_Bool}
 use Rattle.mp_words.specs.declared.trying.Outcome.TheVariants.{Sent}
 use Rattle.mp_words.specs.Request.{Asked}

@@ -1,5 +1,5 @@
 -- The forms of the program's words.
-use Rattle.std.specs.Prelude.{ℕ, List, [], ◌∷◌, Option, Some, None, nat_le, ◌&&◌, codes, option_and_then, if◌then◌else◌}
+use Rattle.std.specs.Prelude.{[], ℕ, List, ◌∷◌, Option, Some, None, nat_le, ◌&&◌, codes, option_and_then, if◌then◌else◌}
 use Rattle.std.specs.Str.{bytes_eq}
 use Rattle.mp_checks.specs.Digits.{number_of}
 

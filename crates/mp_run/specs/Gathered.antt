@@ -1,14 +1,8 @@
 -- The parts of a run in which no row and no list changes.
-use Rattle.std.specs.Prelude.{List, [], ◌∷◌}
-use Rattle.mp_words.specs.declared.entry.RowEntry.{RowEntry}
 use Rattle.mp_words.specs.declared.entry.KeepEntry.{KeepEntry}
 use Rattle.mp_words.specs.declared.entry.KeepEntry.TheVariants as keep
 use Rattle.mp_words.specs.declared.op.Maker.TheVariants as maker
 use Rattle.mp_words.specs.declared.order.Order.{Order}
-
--- the history of one entry
-abbrev pub alone : RowEntry → List RowEntry
-alone entry = entry ∷ []
 
 -- the entry of the opening's order
 abbrev pub first_entry : Order → KeepEntry

@@ -1,5 +1,5 @@
--- The turns of the engine.
-use Rattle.std.specs.Prelude.{ℕ, List, [], Option, Some, None}
+-- The turns as the code has them.
+use Rattle.std.specs.Prelude.{[], ℕ, List, Option, Some, None}
 use Rattle.std.specs.List.{flat_map}
 use Rattle.mp_script.specs.declared.script.Numbered1.{Numbered1}
 use Rattle.mp_run.specs.declared.turns.LaneTurn.{LaneTurn}

@@ -1,5 +1,5 @@
 -- The last round of the drain, and the states that are drained.
-use Rattle.std.specs.Prelude.{◌≡◌, ℕ, zero, suc, ◌<◌, true, [], length, if◌then◌else◌}
+use Rattle.std.specs.Prelude.{[], ◌≡◌, ℕ, zero, suc, ◌<◌, true, length, if◌then◌else◌}
 use Rattle.std.specs.List.{list_any}
 use Rattle.mp_checks.specs.Marks.{has}
 use Rattle.mp_legal.specs.PlainState.{State}

@@ -1,17 +1,19 @@
--- What the engine keeps against the plain run, and what the top call answers.
+-- What lanes, the list and the drain have against the plain run, and what the top call answers.
 pub mod Notes
-pub mod RequestsView
-pub mod Requesting
-pub mod Calls
-pub mod Engine
-pub mod Taking
 pub mod Sound
 pub mod LaneTurns
 pub mod World
 pub mod OpeningSlots
 pub mod FirstMemory
 pub mod OnTurns
-pub mod Rounds
+pub mod DeskLaws
+pub mod Draining
+pub mod DrainAll
+pub mod Runner
+pub mod Turning
+pub mod ToldRun
+pub mod Beginning
+pub mod Closing
 pub mod Gathered
 pub mod LastRound
 pub mod Quiet

@@ -1,5 +1,5 @@
 -- What the top call asks of the folder and of the sink, by how it ended.
-use Rattle.std.specs.Prelude.{◌≡◌, ◌≤◌, ℕ, ◌+◌, ◌-◌, List, [], ◌∷◌, ◌++◌, take, drop, length, Option, Some, None, Result, Ok, Err}
+use Rattle.std.specs.Prelude.{[], ◌≡◌, ◌≤◌, ℕ, ◌+◌, ◌-◌, List, ◌∷◌, ◌++◌, take, drop, length, Option, Some, None, Result, Ok, Err}
 use Rattle.mp_run.specs.declared.status.Status.{Status}
 use Rattle.mp_run.specs.declared.status.Status.TheVariants as end
 use Rattle.mp_run.specs.Forms.{Form, serial, pages, help, version}

@@ -1,5 +1,5 @@
 -- Lanes in which nothing flies.
-use Rattle.std.specs.Prelude.{◌≡◌, ℕ, Bool, ◌==◌, not, is_some, List, [], ◌∷◌, if◌then◌else◌}
+use Rattle.std.specs.Prelude.{[], ◌≡◌, ℕ, Bool, ◌==◌, not, is_some, List, ◌∷◌, if◌then◌else◌}
 use Rattle.mp_legal.specs.PlainState.{State}
 use Rattle.mp_legal.specs.PlainLine.{flights_of}
 use Rattle.mp_legal.specs.Turns.{Turn}

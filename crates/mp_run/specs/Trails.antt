@@ -1,6 +1,6 @@
 -- What a run tells of the tries of its requests, and what the script makes of them.
-use Rattle.std.specs.Prelude.{◌≡◌, ℕ, zero, suc, ◌+◌, Bool, true, false, ◌&&◌, ◌==◌, if◌then◌else◌}
-use Rattle.std.specs.Prelude.{List, [], ◌∷◌, ◌++◌, length, count_by, slice_get, Option, Some, None, is_some}
+use Rattle.std.specs.Prelude.{[], ◌≡◌, ℕ, zero, suc, ◌+◌, Bool, true, false, ◌&&◌, ◌==◌, if◌then◌else◌}
+use Rattle.std.specs.Prelude.{List, ◌∷◌, ◌++◌, length, count_by, slice_get, Option, Some, None, is_some}
 use Rattle.std.specs.List.{flat_map, last_or, AllByRecursion}
 use Rattle.mp_words.specs.declared.answers.Answer.{Answer}
 use Rattle.mp_words.specs.declared.trying.TryEnd.{TryEnd}

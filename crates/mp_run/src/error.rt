@@ -3,7 +3,6 @@
 ghost use Rattle.std.specs.Prelude.{◌≡◌};
 ghost use Rattle.mp_run.specs.declared.error.RunError.TheVariants.{NoMemory};
 
-use crate::halt::Halt;
 use mp_words::numbers::LaneId;
 use std::alloc::{AllocError, AllocFailed};
 
@@ -14,14 +13,6 @@ pub enum RunError {
     NoMemory,
     /// The first lane, by number, that had fewer units left than its next call needs; 16 is the drain.
     Spent(LaneId),
-}
-
-impl From<Halt> for RunError {
-    ghost from_gives = { λ _ e. e ≡ NoMemory };
-
-    fn from(_halt: Halt) -> RunError {
-        RunError::NoMemory
-    }
 }
 
 impl From<AllocError> for RunError {

@@ -1,26 +1,26 @@
 //! Runs a script on one thread, and the top call.
 #![tactic(auto)]
 
-mod drain;
-mod engine;
+mod beginning;
+mod closed;
+mod desk_laws;
+mod draining;
 pub mod error;
 pub mod first_words;
 mod forms;
-mod gather;
-mod halt;
+mod gathering;
 mod help;
 pub mod laws;
-mod lines;
-mod made;
 mod opening;
+mod plain_notes;
 mod reading;
-mod requests;
 pub mod run;
+mod runner;
 pub mod status;
 #[cfg(test)]
 mod tests;
 mod texts;
 pub mod top;
-mod try_notes;
+mod turning;
 mod turns;
 pub mod unit_laws;

@@ -50,18 +50,27 @@ fn two_controllers(rt: &impl Abort, alloc: Global) -> World
     }
 }
 
-/// A world of a controller with a page.
-fn one_page(rt: &impl Abort, alloc: Global) -> World
+/// A world of a controller with a page that states this of the namespace's group.
+fn page_stating(rt: &impl Abort, alloc: Global, state: u8) -> World
     ensures { IsWorld result }
 {
     let topology = read_topology(alloc, WITH_ANA.as_bytes()).expect(rt, "a topology");
+    let mut bytes = PAGE;
+    bytes[32] = state;
     let mut boxes = Vec::new(alloc);
-    let page = Vec::from_slice(alloc, &PAGE).expect(rt, "memory");
+    let page = Vec::from_slice(alloc, &bytes).expect(rt, "memory");
     boxes.push(page).expect(rt, "memory");
     World {
         topology,
         pages: Pages::from_vec(boxes),
     }
+}
+
+/// A world of a controller with a page that states that its path is optimized.
+fn one_page(rt: &impl Abort, alloc: Global) -> World
+    ensures { IsWorld result }
+{
+    page_stating(rt, alloc, 1)
 }
 
 /// The run of a script with so many units for each lane and for the drain.
@@ -154,6 +163,47 @@ fn counts_units(rt: HostRuntime) {
     for (text, allowance, want) in FEW {
         assert_eq!(rt; ended(&rt, alloc, text, allowance), want);
     }
+}
+
+/// A lane of three hundred submits over an inaccessible path, and so many lines `requeue`.
+fn listed_again(rt: &impl Abort, alloc: Global, requeues: u32) -> String {
+    let mut text = String::from_str(alloc, "lane\n").expect(rt, "memory");
+    for req in 0..300u32 {
+        let line = format!(in alloc; "submit {req} 0\n").expect(rt, "memory");
+        text.push_str(line.as_str()).expect(rt, "memory");
+    }
+    for _ in 0..requeues {
+        text.push_str("requeue\n").expect(rt, "memory");
+    }
+    text
+}
+
+/// How many tries all requests of a run have.
+fn tries_in(run: &Run) -> usize {
+    let mut tries = 0usize;
+    for request in run.requests.as_slice() {
+        tries = tries.wrapping_add(request.tries().len());
+    }
+    tries
+}
+
+#[test]
+fn counts_units_of_requests_that_are_listed_again(rt: HostRuntime) -> Result<(), Fail> {
+    let alloc = rt.alloc();
+    let world = page_stating(&rt, alloc, 3);
+    // The submits and nine requeues take all units, and the drain has its own.
+    let text = listed_again(&rt, alloc, 9);
+    let whole = run(alloc, &world, text.as_str(), 3_000)
+        .ok()
+        .ok_or("a run")?;
+    assert_eq!(rt; whole.requests.len(), 300);
+    assert_eq!(rt; tries_in(&whole), 3_300);
+    let text = listed_again(&rt, alloc, 10);
+    let short = run(alloc, &world, text.as_str(), 3_000)
+        .err()
+        .ok_or("a refusal")?;
+    assert_eq!(rt; refused(&short), ("spent", 0));
+    Ok(())
 }
 
 #[test]
