@@ -1,7 +1,6 @@
 -- What each of the keeper's calls leaves for the next one, what a submit and a finish leave for the keeper, and the start.
 use Rattle.std.proofs.Common.{◌≡◌, ◌∙◌, ℕ, ◌-◌, zero, suc, false, List, ◌∷◌, Option, Some, None, Result, Ok, Err, replicate, sym, refl, ap, subst, arith}
 use Rattle.atomic_table.specs.Seated.{TableId}
-use Rattle.mp_words.specs.declared.row.Row.{Row}
 use Rattle.mp_words.specs.declared.row.Policy.{Policy}
 use Rattle.mp_words.specs.declared.flight.Flight.{Flight}
 use Rattle.mp_words.specs.declared.op.Gift.{Gift}
@@ -34,7 +33,6 @@ use Rattle.mp_words.specs.declared.trying.Try.{Try}
 use Rattle.mp_words.specs.declared.answers.Answer.{Answer}
 use Rattle.mp_words.specs.RequestView.{RequestView}
 use Rattle.mp_submit.specs.declared.submit.Submitted.{Submitted}
-use Rattle.mp_submit.specs.declared.submit.Submitted.TheVariants as submitted
 use Rattle.mp_submit.specs.declared.finish.Finished.TheVariants as finished
 use Rattle.mp_submit.specs.Submits.{Submits}
 use Rattle.mp_submit.specs.Finishes.{Finishes}

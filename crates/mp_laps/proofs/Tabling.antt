@@ -1,5 +1,5 @@
 -- What each call over the table leaves for the next one.
-use Rattle.std.proofs.Common.{◌≡◌, ◌∙◌, ℕ, zero, suc, ◌-◌, ◌||◌, Bool, true, false, true≢false, List, [], ◌∷◌, ◌++◌, Option, Some, None, Result, Ok, Err, sym, refl, ap, subst, arith, if◌then◌else◌}
+use Rattle.std.proofs.Common.{◌≡◌, ◌∙◌, ℕ, zero, suc, ◌||◌, Bool, true, false, true≢false, List, [], ◌∷◌, None, Result, Ok, Err, sym, refl, ap, subst, if◌then◌else◌}
 use Rattle.mp_words.specs.declared.flight.Flight.{Flight}
 use Rattle.mp_words.specs.declared.near.Near.{Near}
 use Rattle.mp_words.specs.declared.trying.Try.{Try}
@@ -26,7 +26,6 @@ use Rattle.mp_keep.specs.Keeps.{Adds, AddTo, Removes, RemoveTo}
 use Rattle.mp_keep.specs.Walks.{Reaps}
 use Rattle.mp_plain.proofs.Worked.{sent_flies}
 use Rattle.mp_submit.specs.declared.submit.Submitted.{Submitted}
-use Rattle.mp_submit.specs.declared.submit.Submitted.TheVariants as submitted
 use Rattle.mp_submit.specs.declared.finish.Finished.TheVariants as finished
 use Rattle.mp_submit.specs.Submits.{Submits}
 use Rattle.mp_submit.specs.Finishes.{Finishes}
@@ -43,14 +42,14 @@ clears_role every_one slot v = refl
 clears_role the_slots slot v = refl
 clears_role none slot v = refl
 
+-- what a call leaves, with the same lanes out
+steady : (n : ℕ) (l : KeeperView) (a b : Core) → Leaves n l a b → b.home ≡ a.home → b.view.role ≡ a.view.role → b.view.keeping.out ≡ a.view.keeping.out → Steady n l a b
+steady n l a b h home role out = record { stands = h.stands; closed = h.closed; flights = h.flights; left = h.left; home = home; role = role; out = out }
+
 -- a call that did nothing
 pub steady_all : (n : ℕ) (l : KeeperView) (a b : Core) → b ≡ a → a.view.inside ≡ None → StandsTo l b.view → Steady n l a b
-steady_all n l a b e closed stands = record {
-  leaves = leaves_all n l a b e closed stands;
-  home = ap (λ (c : Core). c.home) e;
-  role = ap (λ (c : Core). c.view.role) e;
-  out = ap (λ (c : Core). c.view.keeping.out) e;
-}
+steady_all n l a b e closed stands =
+    steady n l a b (leaves_all n l a b e closed stands) (ap (λ (c : Core). c.home) e) (ap (λ (c : Core). c.view.role) e) (ap (λ (c : Core). c.view.keeping.out) e)
 
 cleared_out : (r : Role) (node slot : ℕ) (k : Keeping) → (clear_by r node slot k).out ≡ k.out
 cleared_out role.Keeper node slot k = refl
@@ -73,12 +72,9 @@ add_steady k l a b gift by answer closed h = of answer h.to h
     of (Err e) t s = steady_all 2 l a b t.1 closed s.stands
     of (Ok added) t s =
         let clears = clears_of added.row.op added.row.row in
-        record {
-          leaves = add_leaves k l a b gift by answer closed s;
-          home = ap (λ (c : Core). c.home) t.3.core;
-          role = ap (λ (c : Core). c.view.role) t.3.core ∙ clears_role clears t.1 _;
-          out = ap (λ (c : Core). c.view.keeping.out) t.3.core ∙ clears_out clears t.1 _;
-        }
+        steady 2 l a b (add_leaves k l a b gift by answer closed s) (ap (λ (c : Core). c.home) t.3.core)
+        (ap (λ (c : Core). c.view.role) t.3.core ∙ clears_role clears t.1 _)
+        (ap (λ (c : Core). c.view.keeping.out) t.3.core ∙ clears_out clears t.1 _)
 
 pub remove_steady : (k l : KeeperView) (a b : Core) (ctrl : ℕ) (by : Maker) (answer : Result RowEntry RemoveError) → a.view.inside ≡ None → Removes k l a b ctrl by answer → Steady 1 l a b
 remove_steady k l a b ctrl by answer closed h = of answer h.to
@@ -88,11 +84,11 @@ remove_steady k l a b ctrl by answer closed h = of answer h.to
 
     of : (r : Result RowEntry RemoveError) → RemoveTo k l a b ctrl by r → Steady 1 l a b
     of (Err (NoPath order)) t = steady_all 1 l a b t.2 closed h.stands
-    of (Err (Moved row)) t = record { leaves = leaves; home = ap (λ (c : Core). c.home) t.2.core; role = ap (λ (c : Core). c.view.role) t.2.core; out = ap (λ (c : Core). c.view.keeping.out) t.2.core }
-    of (Ok entry) t = record { leaves = leaves; home = ap (λ (c : Core). c.home) t.2.core; role = ap (λ (c : Core). c.view.role) t.2.core; out = ap (λ (c : Core). c.view.keeping.out) t.2.core }
+    of (Err (Moved row)) t = steady 1 l a b leaves (ap (λ (c : Core). c.home) t.2.core) (ap (λ (c : Core). c.view.role) t.2.core) (ap (λ (c : Core). c.view.keeping.out) t.2.core)
+    of (Ok entry) t = steady 1 l a b leaves (ap (λ (c : Core). c.home) t.2.core) (ap (λ (c : Core). c.view.role) t.2.core) (ap (λ (c : Core). c.view.keeping.out) t.2.core)
 
 pub reap_steady : (k l : KeeperView) (a b : Core) (by : Maker) (answer : Reaped) → a.view.inside ≡ None → Reaps k l a b by answer → Steady 16 l a b
-reap_steady k l a b by answer closed h = record { leaves = reap_leaves k l a b by answer closed h; home = h.kept.home; role = h.kept.role; out = h.kept.out }
+reap_steady k l a b by answer closed h = steady 16 l a b (reap_leaves k l a b by answer closed h) h.kept.home h.kept.role h.kept.out
 
 pub submit_goes : (near : Near) (a b : Core) (before after : RequestView) (answer : Submitted) (made : Try) → Submits near a b before after answer made → Goes a b after answer
 submit_goes near a b before after answer made s = record {

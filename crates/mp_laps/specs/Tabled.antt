@@ -1,5 +1,5 @@
 -- What each call over the table leaves for the next one.
-use Rattle.std.specs.Prelude.{◌≡◌, ℕ, ◌-◌, List, [], ◌∷◌, ◌++◌, None}
+use Rattle.std.specs.Prelude.{◌≡◌, ℕ, ◌+◌, ◌-◌, ◌≤◌, [], ◌∷◌, ◌++◌, None}
 use Rattle.std.specs.List.{last_or}
 use Rattle.mp_words.specs.declared.flight.Flight.{Flight}
 use Rattle.mp_words.specs.declared.trying.Outcome.TheVariants as outcome
@@ -9,24 +9,15 @@ use Rattle.mp_core.specs.Core.{Core}
 use Rattle.mp_core.specs.Views.{flights_without}
 use Rattle.mp_submit.specs.declared.submit.Submitted.{Submitted}
 use Rattle.mp_submit.specs.declared.submit.Submitted.TheVariants as submitted
-use Rattle.mp_keep.specs.Keeper.{KeeperView}
-use Rattle.mp_table.specs.declared.on.On.{On}
-use Rattle.mp_table.specs.declared.on_keeper.OnKeeper.{OnKeeper}
-use Rattle.mp_table.specs.Known.{core_on}
-use Rattle.mp_table.specs.Passes.{table_of, view_of, keeper_view}
-use Rattle.mp_laps.specs.Keeping.{Leaves}
+use Rattle.mp_keep.specs.Keeper.{KeeperView, StandsTo}
 
--- what a lane's pass knows
-abbrev pub lane_core : On → Core
-lane_core s = core_on (table_of s.shared.now) s.pass.lane (view_of s.pass)
-
--- what the keeper's pass knows
-abbrev pub keeper_core : OnKeeper → Core
-keeper_core s = core_on (table_of s.shared.now) s.lane (keeper_view s.pass)
-
--- The keeper still stands to its steps, at most so many units were used, and the same lanes are out.
+-- The keeper still stands to its steps, no section is open, the flights are as before, at most so many units were used,
+-- and the same lanes are out.
 pub record Steady (units : ℕ) (k : KeeperView) (a b : Core) : Type 0 where
-  pub leaves : Leaves units k a b
+  pub stands : StandsTo k b.view
+  pub closed : b.view.inside ≡ None
+  pub flights : b.view.flights ≡ a.view.flights
+  pub left : a.view.left ≤ b.view.left + units
   pub home : b.home ≡ a.home
   pub role : b.view.role ≡ a.view.role
   pub out : b.view.keeping.out ≡ a.view.keeping.out

@@ -10,10 +10,11 @@ ghost use Rattle.mp_keep.specs.Keeper.{StandsTo};
 ghost use Rattle.mp_plain.specs.Told.{told_core, core_begun};
 ghost use Rattle.mp_plain.specs.TwoPaths.{two_path_words};
 ghost use Rattle.mp_laps.specs.Keeping.{Leaves, Sends, StillStands};
+ghost use Rattle.mp_laps.specs.Tabled.{Steady};
 
 use crate::bench::{one_node, two_paths};
 use mp_core::gate::NoGate;
-use mp_core::steps::Steps;
+use mp_core::steps::{KeeperSteps, Steps};
 use mp_keep::add_error::AddError;
 use mp_keep::added::Added;
 use mp_keep::keeper::Keeper;
@@ -60,7 +61,7 @@ pub(crate) fn two_owners() -> [Option<Ctrl>; 15]
 }
 
 /// The keeper of the words of two paths, over which nobody has stepped yet.
-fn keeper_of(alloc: Global, plain: &Plain) -> Keeper
+pub(crate) fn keeper_of(alloc: Global, plain: &Plain) -> Keeper
     requires { told_core plain.now ≡ core_begun (told_core plain.now).home (record { words = two_path_words; allowance = 100 }) }
     ensures { StandsTo result (told_core plain.now).view }
 {
@@ -69,9 +70,9 @@ fn keeper_of(alloc: Global, plain: &Plain) -> Keeper
 }
 
 /// Makes room for the keeper's next call, and says whether there is.
-fn has_room(keeper: &mut Keeper, plain: &Plain) -> bool
-    requires { StandsTo keeper.old (told_core plain.now).view }
-    ensures stands { StandsTo keeper.new (told_core plain.now).view }
+pub(crate) fn has_room<S: KeeperSteps>(keeper: &mut Keeper, steps: &S) -> bool
+    requires { StandsTo keeper.old (S.core steps.now).view }
+    ensures stands { StandsTo keeper.new (S.core steps.now).view }
     ensures room { result ≡ true → 80 ≤ keeper.new.spare }
 {
     room_leaves_the_keeper();
@@ -87,19 +88,19 @@ pub(crate) fn at(line: u32) -> Maker {
 }
 
 /// Adds an optimized path of a controller without ANA, or answers nothing where memory ran out.
-#[tactic(auto, using(crate::proofs::Keeping::leaves_all, crate::proofs::Keeping::add_leaves))]
-fn add(
+#[tactic(auto, using(crate::proofs::Tabling::steady_all, crate::proofs::Tabling::add_steady))]
+pub(crate) fn add<S: KeeperSteps>(
     keeper: &mut Keeper,
-    plain: &mut Plain,
+    steps: &mut S,
     ctrl: Ctrl,
     line: u32,
 ) -> Option<Result<Added, AddError>>
-    requires left { 2 ≤ (told_core plain.old).view.left }
-    requires closed { (told_core plain.old).view.inside ≡ None }
-    requires stands { StandsTo keeper.old (told_core plain.old).view }
-    ensures { Leaves 2 keeper.new (told_core plain.old) (told_core plain.new) }
+    requires left { 2 ≤ (S.core steps.old).view.left }
+    requires closed { (S.core steps.old).view.inside ≡ None }
+    requires stands { StandsTo keeper.old (S.core steps.old).view }
+    ensures { Steady 2 keeper.new (S.core steps.old) (S.core steps.new) }
 {
-    if !has_room(keeper, plain) {
+    if !has_room(keeper, steps) {
         return None;
     }
     let gift = Gift {
@@ -109,54 +110,58 @@ fn add(
         pending: false,
         armed: false,
     };
-    Some(keeper.add(plain, gift, at(line)))
+    Some(keeper.add(steps, gift, at(line)))
 }
 
 /// Begins the removal of a controller's path, or answers nothing where memory ran out.
-#[tactic(auto, using(crate::proofs::Keeping::leaves_all, crate::proofs::Keeping::remove_leaves))]
-fn remove(
+#[tactic(auto, using(crate::proofs::Tabling::steady_all, crate::proofs::Tabling::remove_steady))]
+pub(crate) fn remove<S: KeeperSteps>(
     keeper: &mut Keeper,
-    plain: &mut Plain,
+    steps: &mut S,
     ctrl: Ctrl,
     line: u32,
 ) -> Option<Result<RowEntry, RemoveError>>
-    requires left { 1 ≤ (told_core plain.old).view.left }
-    requires closed { (told_core plain.old).view.inside ≡ None }
-    requires stands { StandsTo keeper.old (told_core plain.old).view }
-    ensures { Leaves 1 keeper.new (told_core plain.old) (told_core plain.new) }
+    requires left { 1 ≤ (S.core steps.old).view.left }
+    requires closed { (S.core steps.old).view.inside ≡ None }
+    requires stands { StandsTo keeper.old (S.core steps.old).view }
+    ensures { Steady 1 keeper.new (S.core steps.old) (S.core steps.new) }
 {
-    if !has_room(keeper, plain) {
+    if !has_room(keeper, steps) {
         return None;
     }
-    Some(keeper.remove(plain, ctrl, at(line)))
+    Some(keeper.remove(steps, ctrl, at(line)))
 }
 
 /// Sets the policy to round robin, or answers nothing where memory ran out.
 #[tactic(auto, using(crate::proofs::Keeping::leaves_all, crate::proofs::Keeping::policy_leaves))]
-fn go_round(keeper: &mut Keeper, plain: &mut Plain, line: u32) -> Option<OrderEntry>
-    requires left { 1 ≤ (told_core plain.old).view.left }
-    requires closed { (told_core plain.old).view.inside ≡ None }
-    requires stands { StandsTo keeper.old (told_core plain.old).view }
-    ensures { Leaves 1 keeper.new (told_core plain.old) (told_core plain.new) }
+pub(crate) fn go_round<S: KeeperSteps>(
+    keeper: &mut Keeper,
+    steps: &mut S,
+    line: u32,
+) -> Option<OrderEntry>
+    requires left { 1 ≤ (S.core steps.old).view.left }
+    requires closed { (S.core steps.old).view.inside ≡ None }
+    requires stands { StandsTo keeper.old (S.core steps.old).view }
+    ensures { Leaves 1 keeper.new (S.core steps.old) (S.core steps.new) }
 {
-    if !has_room(keeper, plain) {
+    if !has_room(keeper, steps) {
         return None;
     }
-    Some(keeper.set_policy(plain, Policy::RoundRobin, at(line)))
+    Some(keeper.set_policy(steps, Policy::RoundRobin, at(line)))
 }
 
 /// Carries the removals as far as they go, or answers nothing where memory ran out.
-#[tactic(auto, using(crate::proofs::Keeping::leaves_all, crate::proofs::Keeping::reap_leaves))]
-fn reap(keeper: &mut Keeper, plain: &mut Plain, line: u32) -> Option<Reaped>
-    requires left { 16 ≤ (told_core plain.old).view.left }
-    requires closed { (told_core plain.old).view.inside ≡ None }
-    requires stands { StandsTo keeper.old (told_core plain.old).view }
-    ensures { Leaves 16 keeper.new (told_core plain.old) (told_core plain.new) }
+#[tactic(auto, using(crate::proofs::Tabling::steady_all, crate::proofs::Tabling::reap_steady))]
+pub(crate) fn reap<S: KeeperSteps>(keeper: &mut Keeper, steps: &mut S, line: u32) -> Option<Reaped>
+    requires left { 16 ≤ (S.core steps.old).view.left }
+    requires closed { (S.core steps.old).view.inside ≡ None }
+    requires stands { StandsTo keeper.old (S.core steps.old).view }
+    ensures { Steady 16 keeper.new (S.core steps.old) (S.core steps.new) }
 {
-    if !has_room(keeper, plain) {
+    if !has_room(keeper, steps) {
         return None;
     }
-    Some(keeper.reap(plain, at(line)))
+    Some(keeper.reap(steps, at(line)))
 }
 
 /// Submits a request.

@@ -1,6 +1,6 @@
 //! What each call answers over a table: a removal waits for another lane's request, and the slot is given again.
 
-ghost use Rattle.std.specs.Prelude.{◌≡◌, ◌≤◌, ◌++◌, ◌∷◌, [], None, Some, true, replicate, IfOk};
+ghost use Rattle.std.specs.Prelude.{◌≡◌, ◌≤◌, ◌∷◌, None, Some, true, replicate, IfOk};
 ghost use Rattle.std.specs.List.{last_or};
 ghost use Rattle.mp_words.specs.TwoPaths as listed;
 ghost use Rattle.mp_words.specs.declared.trying.Outcome.TheVariants as outcome;
@@ -11,20 +11,20 @@ ghost use Rattle.mp_submit.specs.declared.submit.Submitted.TheVariants as submit
 ghost use Rattle.mp_plain.specs.TwoPaths.{two_path_words};
 ghost use Rattle.mp_rule.specs.Lawful.{opening_view};
 ghost use Rattle.mp_table.specs.Passes.{table_of, keeper_home, keeper_view};
-ghost use Rattle.mp_laps.specs.Tabled.{lane_core, keeper_core, Steady, Goes, Comes};
+ghost use Rattle.mp_laps.specs.Tabled.{Goes, Comes};
 
 use crate::bench::two_paths;
 use crate::keeper_tests::{
-    at, closes_at, flew, is_at, is_list, lists_at, two_listed, two_owners, was_freed, was_marked,
+    add, closes_at, flew, is_at, is_list, lists_at, reap, remove, two_listed, two_owners,
+    was_freed, was_marked,
 };
 use mp_core::gate::NoGate;
 use mp_core::steps::Steps;
 use mp_keep::add_error::AddError;
 use mp_keep::added::Added;
 use mp_keep::keeper::Keeper;
-use mp_keep::laws::{a_new_keeper_stands, room_leaves_the_keeper};
+use mp_keep::laws::a_new_keeper_stands;
 use mp_keep::reaped::Reaped;
-use mp_keep::remove_error::RemoveError;
 use mp_submit::finish::{Finished, finish};
 use mp_submit::submit::{Submitted, submit};
 use mp_table::error::TableError;
@@ -33,18 +33,16 @@ use mp_table::on::On;
 use mp_table::on_keeper::OnKeeper;
 use mp_table::shared::Shared;
 use mp_words::answers::Answers;
-use mp_words::entry::RowEntry;
 use mp_words::flight::Flight;
 use mp_words::near::Near;
 use mp_words::numbers::{Ctrl, LaneId, Node, ReqId};
-use mp_words::op::{Gift, Maker};
 use mp_words::request::Request;
 use std::alloc::Global;
 use std::process::Abort;
 use std::test::Fail;
 
 /// A table on the words of two paths.
-fn table(alloc: Global) -> Result<(Shared, KeeperPass), TableError>
+pub(crate) fn table(alloc: Global) -> Result<(Shared, KeeperPass), TableError>
     ensures own { IfOk result (λ t. keeper_home t.1 ≡ table_of t.0) }
     ensures view { IfOk result (λ t. keeper_view t.1 ≡ opening_view (record { words = two_path_words; units = 200 })) }
 {
@@ -58,75 +56,6 @@ fn keeper_of(alloc: Global, on: &OnKeeper) -> Keeper
 {
     a_new_keeper_stands();
     Keeper::make(alloc, two_listed(), two_owners())
-}
-
-/// Makes room for the keeper's next call, and says whether there is.
-fn has_room(keeper: &mut Keeper, on: &OnKeeper) -> bool
-    requires { StandsTo keeper.old (keeper_view on.now.pass) }
-    ensures stands { StandsTo keeper.new (keeper_view on.now.pass) }
-    ensures room { result ≡ true → 80 ≤ keeper.new.spare }
-{
-    room_leaves_the_keeper();
-    keeper.reserve().is_ok()
-}
-
-/// Begins the removal of a controller's path.
-#[tactic(auto, using(crate::proofs::Tabling::steady_all, crate::proofs::Tabling::remove_steady))]
-fn remove(
-    keeper: &mut Keeper,
-    on: &mut OnKeeper,
-    ctrl: Ctrl,
-    line: u32,
-) -> Option<Result<RowEntry, RemoveError>>
-    requires left { 1 ≤ (keeper_view on.old.pass).left }
-    requires closed { (keeper_view on.old.pass).inside ≡ None }
-    requires stands { StandsTo keeper.old (keeper_view on.old.pass) }
-    ensures { Steady 1 keeper.new (keeper_core on.old) (keeper_core on.new) }
-{
-    if !has_room(keeper, on) {
-        return None;
-    }
-    Some(keeper.remove(on, ctrl, at(line)))
-}
-
-/// Carries the removals as far as they go.
-#[tactic(auto, using(crate::proofs::Tabling::steady_all, crate::proofs::Tabling::reap_steady))]
-fn reap(keeper: &mut Keeper, on: &mut OnKeeper, line: u32) -> Option<Reaped>
-    requires left { 16 ≤ (keeper_view on.old.pass).left }
-    requires closed { (keeper_view on.old.pass).inside ≡ None }
-    requires stands { StandsTo keeper.old (keeper_view on.old.pass) }
-    ensures { Steady 16 keeper.new (keeper_core on.old) (keeper_core on.new) }
-{
-    if !has_room(keeper, on) {
-        return None;
-    }
-    Some(keeper.reap(on, at(line)))
-}
-
-/// Adds an optimized path of a controller without ANA.
-#[tactic(auto, using(crate::proofs::Tabling::steady_all, crate::proofs::Tabling::add_steady))]
-fn add(
-    keeper: &mut Keeper,
-    on: &mut OnKeeper,
-    ctrl: Ctrl,
-    line: u32,
-) -> Option<Result<Added, AddError>>
-    requires left { 2 ≤ (keeper_view on.old.pass).left }
-    requires closed { (keeper_view on.old.pass).inside ≡ None }
-    requires stands { StandsTo keeper.old (keeper_view on.old.pass) }
-    ensures { Steady 2 keeper.new (keeper_core on.old) (keeper_core on.new) }
-{
-    if !has_room(keeper, on) {
-        return None;
-    }
-    let gift = Gift {
-        ctrl,
-        ana: false,
-        state: 1,
-        pending: false,
-        armed: false,
-    };
-    Some(keeper.add(on, gift, at(line)))
 }
 
 /// Two nodes, with the first controller at the first and the second at the second.
@@ -147,36 +76,41 @@ fn two_nodes() -> Near {
 }
 
 /// Submits a request of a lane.
-fn send(on: &mut On, request: &mut Request) -> Submitted
-    requires left { 1 ≤ (lane_core on.old).view.left }
-    requires closed { (lane_core on.old).view.inside ≡ None }
+pub(crate) fn send<S: Steps>(steps: &mut S, request: &mut Request) -> Submitted
+    requires left { 1 ≤ (S.core steps.old).view.left }
+    requires closed { (S.core steps.old).view.inside ≡ None }
     requires spare { 1 ≤ request.old.spare }
     requires waiting { outcome_of (last_or None (asked_of request.old).tries) ≡ outcome.Waiting }
-    ensures { Goes (lane_core on.old) (lane_core on.new) request.new result }
+    ensures { Goes (S.core steps.old) (S.core steps.new) request.new result }
 {
-    submit(on, &NoGate, &two_nodes(), request)
+    submit(steps, &NoGate, &two_nodes(), request)
 }
 
 /// Finishes a lane's flight, and says whether its request is done with status 0.
-fn is_done(on: &mut On, flight: Flight, request: &mut Request, answers: &Answers) -> bool
-    requires left { 1 ≤ (lane_core on.old).view.left }
-    requires closed { (lane_core on.old).view.inside ≡ None }
-    requires flies { has_flight flight (lane_core on.old).view ≡ true }
+pub(crate) fn is_done<S: Steps>(
+    steps: &mut S,
+    flight: Flight,
+    request: &mut Request,
+    answers: &Answers,
+) -> bool
+    requires left { 1 ≤ (S.core steps.old).view.left }
+    requires closed { (S.core steps.old).view.inside ≡ None }
+    requires flies { has_flight flight (S.core steps.old).view ≡ true }
     requires sent { outcome_of (last_or None (asked_of request.old).tries) ≡ outcome.Sent }
-    ensures { result ≡ true → Comes flight (lane_core on.old) (lane_core on.new) }
+    ensures { result ≡ true → Comes flight (S.core steps.old) (S.core steps.new) }
 {
-    match finish(on, &NoGate, flight, request, answers) {
+    match finish(steps, &NoGate, flight, request, answers) {
         Finished::Done(status) => status == 0,
         Finished::Back(_) => false,
         Finished::Moved(flight, _, _) => {
-            on.end(flight);
+            steps.end(flight);
             false
         }
     }
 }
 
 /// The flight of a request that was sent.
-fn sent(rt: &impl Abort, end: Submitted) -> Flight
+pub(crate) fn sent(rt: &impl Abort, end: Submitted) -> Flight
     ensures { end ≡ submitted.Sent result }
 {
     match end {

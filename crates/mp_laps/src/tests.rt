@@ -7,6 +7,7 @@ use crate::bench::{bench, one_node, two_paths};
 use crate::lap::{LapEnd, one_lap};
 use mp_change::change::{ChangeEnd, Changing, change};
 use mp_core::gate::{Gate, NoGate};
+use mp_core::steps::Steps;
 use mp_plain::plain::Plain;
 use mp_words::answers::Answers;
 use mp_words::numbers::{Ctrl, LaneId, Node, ReqId};
@@ -82,17 +83,17 @@ fn sent_to(request: &Request) -> u32 {
 }
 
 /// The controller goes to a state, by a line of lane 0.
-fn go(plain: &mut Plain, ctrl: Ctrl, to: CState) -> ChangeEnd
-    requires left { 1 ≤ (told_core plain.old).view.left }
-    requires closed { (told_core plain.old).view.inside ≡ None }
-    ensures left { (told_core plain.old).view.left ≡ (told_core plain.new).view.left + 1 }
-    ensures closed { (told_core plain.new).view.inside ≡ None }
+pub(crate) fn go<S: Steps>(steps: &mut S, ctrl: Ctrl, to: CState) -> ChangeEnd
+    requires left { 1 ≤ (S.core steps.old).view.left }
+    requires closed { (S.core steps.old).view.inside ≡ None }
+    ensures left { (S.core steps.old).view.left ≡ (S.core steps.new).view.left + 1 }
+    ensures closed { (S.core steps.new).view.inside ≡ None }
 {
     let by = Maker::Line {
         lane: LaneId::make(0).unwrap(),
         line: 1,
     };
-    let Changing { end, note: _ } = change(plain, &NoGate, ctrl, Op::Ctrl(to), by);
+    let Changing { end, note: _ } = change(steps, &NoGate, ctrl, Op::Ctrl(to), by);
     end
 }
 

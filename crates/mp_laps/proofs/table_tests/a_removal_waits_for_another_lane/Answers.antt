@@ -23,7 +23,7 @@ is_done-done-requires-clause-flies g c =
 
 pub is_done-done-requires-2-clause-flies : goal.is_done-done-requires-2-clause-flies
 is_done-done-requires-2-clause-flies g c =
-    ap (list_any (is_flight c.sent-flight-2.result)) (c.send-2.ensures.flew c.sent-flight-2.result c.sent-flight-2.ensures) ∙ sent_flies c.sent-flight-2.result (view_of c.is_done-done.new.on.pass).flights
+    ap (list_any (is_flight c.sent-flight-2.result)) (c.send-2.ensures.flew c.sent-flight-2.result c.sent-flight-2.ensures) ∙ sent_flies c.sent-flight-2.result (view_of c.is_done-done.new.steps.pass).flights
 
 pub join-requires-clause-landed : goal.join-requires-clause-landed
 join-requires-clause-landed g c =

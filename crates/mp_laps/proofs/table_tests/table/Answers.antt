@@ -1,4 +1,4 @@
-use Rattle.std.proofs.Common.{◌≡◌, ◌≤◌, ◌+◌, ℕ, ap, sym, subst, arith}
+use Rattle.std.proofs.Common.{◌≤◌, ℕ, sym, subst, arith}
 use Rattle.mp_words.specs.declared.words.Words.{Words}
 use Rattle.mp_core.specs.Unpacked.{unpacked}
 use Rattle.mp_rule.specs.Lawful.{IsLawful, HasRoom}
