@@ -1,4 +1,3 @@
 pub mod Keeping
-pub mod Laning
 pub mod Lapping
 pub mod Tabling

@@ -1,4 +1,3 @@
 pub mod Keeping
-pub mod Lanes
 pub mod OneLap
 pub mod Tabled
