@@ -5,7 +5,7 @@ use Rattle.mp_words.specs.RequestView.{RequestView}
 use Rattle.mp_record.specs.declared.event.Event.TheVariants as event
 use Rattle.mp_script.specs.declared.script.Numbered1.{Numbered1}
 use Rattle.mp_core.specs.Core.{Core}
-use Rattle.mp_keep.specs.Keeper.{KeeperView, StandsTo}
+use Rattle.mp_keep.specs.Keeper.{KeeperView}
 use Rattle.mp_desk.specs.DeskView.{DeskView, noting}
 use Rattle.mp_desk.specs.Calls.{CallsTo, EndsAll, Stand, StopsTo}
 use Rattle.mp_desk.specs.declared.halt.Halt.{Halt}
@@ -18,7 +18,7 @@ use Rattle.mp_lane.specs.declared.error.LaneError.{LaneError}
 use Rattle.mp_lane.specs.declared.error.LaneError.TheVariants as error
 use Rattle.mp_lane.specs.declared.stepped.Stepped.{Stepped}
 use Rattle.mp_lane.specs.declared.stepped.Stepped.TheVariants.{Ran, Ended, Spent}
-use Rattle.mp_lane.specs.Steps.{BreaksOff, ComesToEnd, Fails, IsBroken, IsSpent, Runs, RunsOn, Settles, StandsIfOn, StepTo, Stops, Told, behind, has_line, line_of, start_at}
+use Rattle.mp_lane.specs.Steps.{BreaksOff, ComesToEnd, Fails, IsBroken, IsSpent, Runs, RunsOn, Settles, StepTo, Stops, Told, behind, has_line, line_of, start_at}
 
 split : (rest : List Numbered1) → has_line rest ≡ true → (l : Numbered1) × (rest ≡ l ∷ behind rest)
 split [] has = absurd cc
@@ -110,13 +110,6 @@ breaks_to (Err halt.NoMemory) result i v r w p b c k is_r runs h =
       keeper = refl;
       lane = h.1.lane ∙ (λ j. record (is_r j) { list = []; listed = false; over = true; desk = w.desk });
     })
-
--- the keeper stands to its steps where the lane goes on, since it does however the step ends
-pub stands_on : (result : Result Stepped LaneError) (k : KeeperView) (c : Core) → StandsTo k c.view → IfOk result (λ stepped. StandsIfOn stepped k c)
-stands_on (Ok Ran) k c s = s
-stands_on (Ok Ended) k c s = s
-stands_on (Ok Spent) k c s = tt
-stands_on (Err error.NoMemory) k c s = tt
 
 -- what a lane wants that isn't over and has a next line
 pub wants_so : (v : LaneView) (over listed : Bool) (rest behind : List Numbered1) (l : Numbered1) (answer : Wants) → v.over ≡ over → over ≡ false → v.listed ≡ listed → v.rest ≡ rest → rest ≡ l ∷ behind → answer ≡ wants_next listed (l ∷ behind) → answer ≡ wants_of v

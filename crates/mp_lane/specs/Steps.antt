@@ -6,7 +6,7 @@ use Rattle.mp_script.specs.declared.script.Line.{Line}
 use Rattle.mp_script.specs.declared.script.Line.TheVariants as line
 use Rattle.mp_script.specs.declared.script.Numbered1.{Numbered1}
 use Rattle.mp_core.specs.Core.{Core}
-use Rattle.mp_keep.specs.Keeper.{KeeperView, StandsTo}
+use Rattle.mp_keep.specs.Keeper.{KeeperView}
 use Rattle.mp_desk.specs.declared.halt.Halt.{Halt}
 use Rattle.mp_desk.specs.declared.halt.Halt.TheVariants as halt
 use Rattle.mp_desk.specs.DeskView.{DeskView, noting}
@@ -163,9 +163,3 @@ Settles (Ok true) result v w a b = (result ≡ Ok Ran) × (w ≡ record v { rest
 Settles (Ok false) result v w a b = (result ≡ Ok Ended) × (w ≡ record v { listed = false; over = true }) × (b ≡ a)
 Settles (Err halt.Spent) result v w a b = (result ≡ Ok Spent) × Stops v w a b
 Settles (Err halt.NoMemory) result v w a b = (result ≡ Err error.NoMemory) × Stops v w a b
-
--- The keeper stands to its steps after a step of its lane by which the lane goes on, or came to its end.
-abbrev pub StandsIfOn : Stepped → KeeperView → Core → Type 0
-StandsIfOn Ran k c = StandsTo k c.view
-StandsIfOn Ended k c = StandsTo k c.view
-StandsIfOn Spent k c = Unit {0}

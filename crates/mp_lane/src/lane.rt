@@ -9,7 +9,7 @@ ghost use Rattle.mp_desk.specs.Gains.{Gains, UsesSections};
 ghost use Rattle.mp_keep.specs.Keeper.{KeeperView, StandsTo};
 ghost use Rattle.mp_script.specs.declared.script.Numbered1.{Numbered1};
 ghost use Rattle.mp_lane.specs.Lines.{reads_of};
-ghost use Rattle.mp_lane.specs.Steps.{behind, has_line, line_of, start_at, HasNoKeeperLine, IsBroken, IsToStep, MayRead, Runs, RunsBeside, Settles, StandsIfOn, StepTo};
+ghost use Rattle.mp_lane.specs.Steps.{behind, has_line, line_of, start_at, HasNoKeeperLine, IsBroken, IsToStep, MayRead, Runs, RunsBeside, Settles, StepTo};
 ghost use Rattle.mp_lane.specs.LaneView.{next_submits, submits, wants_next, wants_of, weight_of};
 
 use crate::error::LaneError;
@@ -162,10 +162,9 @@ impl Lane {
         requires stands { StandsTo keeper.old (S.core steps.old).view }
         ensures does { StepTo result (reads_of world.now answers.now) self.old self.new (stand (S.core steps.old) self.old.desk keeper.old) (stand (S.core steps.new) self.new.desk keeper.new) }
         ensures leaves { Leaves (S.core steps.old) (S.core steps.new) self.new.desk }
-        ensures stands { IfOk result (λ stepped. StandsIfOn stepped keeper.new (S.core steps.new)) }
+        ensures stands { StandsTo keeper.new (S.core steps.new).view }
         ensures breaks { OnErr result (IsBroken (reads_of world.now answers.now) self.old self.new (stand (S.core steps.old) self.old.desk keeper.old) (stand (S.core steps.new) self.new.desk keeper.new)) }
         ensures gains { Gains (stand (S.core steps.old) self.old.desk keeper.old) (stand (S.core steps.new) self.new.desk keeper.new) }
-        ensures keeps { StandsTo keeper.new (S.core steps.new).view }
         ensures weight { weight_of self.new ≤ weight_of self.old }
     {
         calls_note_what_the_pass_gains();

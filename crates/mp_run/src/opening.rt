@@ -13,7 +13,8 @@ ghost use Rattle.mp_run.specs.OpeningSlots.{slot_before};
 ghost use Rattle.mp_run.specs.World.{IsWorld};
 
 use crate::error::RunError;
-use mp_page::{Page, PageError, changing, read_page, state_for};
+use mp_lane::pages::{page_gift, plain_gift, stated_gift};
+use mp_page::{PageError, read_page};
 use mp_script::script::World;
 use mp_topology::topology::Topology;
 use mp_words::numbers::{Ctrl, Slot};
@@ -40,43 +41,6 @@ pub fn free_row() -> Row
         marked: false,
         ana: false,
     }
-}
-
-/// What a path of a controller without ANA begins with.
-pub fn plain_gift(ctrl: Ctrl) -> Gift
-    ensures { result ≡ gifts.plain_gift ctrl }
-{
-    Gift {
-        ctrl,
-        ana: false,
-        state: 1,
-        pending: false,
-        armed: false,
-    }
-}
-
-/// What a path with ANA begins with: in the state that is stated, else inaccessible and pending.
-fn stated_gift(ctrl: Ctrl, armed: bool, stated: Option<u8>) -> Gift
-    ensures { result ≡ gifts.stated_gift ctrl armed stated }
-{
-    let (state, pending) = match stated {
-        Some(state) => (state, false),
-        None => (3, true),
-    };
-    Gift {
-        ctrl,
-        ana: true,
-        state,
-        pending,
-        armed,
-    }
-}
-
-/// What a path with ANA begins with, by its page.
-pub fn page_gift(ctrl: Ctrl, page: &Page, nsid: u32) -> Gift
-    ensures { result ≡ gifts.gift_of nsid ctrl (Some page.now) }
-{
-    stated_gift(ctrl, changing(page), state_for(page, nsid))
 }
 
 /// What an opening path with ANA begins with, by the bytes of its page. A refused page counts as an empty one.

@@ -4,7 +4,7 @@ use Rattle.mp_desk.specs.Desks.{stand}
 use Rattle.mp_lane.specs.Lines.{reads_of}
 use Rattle.mp_lane.specs.Steps.{has_line}
 use Rattle.mp_lane.proofs.StepGains.{step_gains}
-use Rattle.mp_lane.proofs.Stepping.{breaks_to, settles_to, stands_on}
+use Rattle.mp_lane.proofs.Stepping.{breaks_to, settles_to}
 use Rattle.mp_lane.proofs.Weighs.{settles_weigh}
 use Rattle.mp_lane.proofs.lane.Lane.step_keeper.Goals as goal
 
@@ -19,11 +19,8 @@ returns-clause-does g c =
     settles_to c.run_keeper-ran.result c.settle.result (reads_of c.args.world.now c.args.answers.now) c.args.self.now c.run_keeper-ran.new.self c.settle.new.self (stand (g.S.Steps.core c.args.steps.now) c.args.self.now.desk c.args.keeper.now) (g.S.Steps.core c.run_keeper-ran.new.steps) (g.S.Steps.core c.settle.new.steps) c.run_keeper-ran.new.keeper
     c.run_keeper-ran.ensures.lane c.run_keeper-ran.ensures.ran c.run_keeper-ran.ensures.runs c.settle.ensures.settles
 
-pub returns-clause-keeps : goal.returns-clause-keeps
-returns-clause-keeps g c = c.settle.ensures.stands c.run_keeper-ran.new.keeper c.run_keeper-ran.ensures.stands
-
 pub returns-clause-stands : goal.returns-clause-stands
-returns-clause-stands g c = stands_on c.settle.result c.run_keeper-ran.new.keeper (g.S.Steps.core c.settle.new.steps) (returns-clause-keeps g c)
+returns-clause-stands g c = c.settle.ensures.stands c.run_keeper-ran.new.keeper c.run_keeper-ran.ensures.stands
 
 pub returns-clause-breaks : goal.returns-clause-breaks
 returns-clause-breaks g c =
