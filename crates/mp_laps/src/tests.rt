@@ -58,27 +58,30 @@ fn a_request_comes_back_and_is_done(rt: HostRuntime) -> Result<(), Fail> {
     let tries = request.tries();
     assert_eq!(rt; tries.len(), 2);
     if tries.len() == 2 {
-        assert_eq!(rt; tries[0].count, 2);
-        assert_eq!(rt; tries[0].statuses[0], 0x0006);
-        assert_eq!(rt; tries[0].statuses[1], 0x0302);
-        assert!(rt; matches!(tries[0].back, Some(Back::Unset)));
-        assert!(rt; matches!(tries[0].end, TryEnd::Sent(_, 0)));
-        assert_eq!(rt; tries[1].hop, 2);
-        assert_eq!(rt; tries[1].count, 1);
-        assert_eq!(rt; tries[1].statuses[0], 0);
-        assert!(rt; tries[1].back.is_none());
+        let first = tries.at(0);
+        assert_eq!(rt; first.count, 2);
+        assert_eq!(rt; first.statuses[0], 0x0006);
+        assert_eq!(rt; first.statuses[1], 0x0302);
+        assert!(rt; matches!(first.back, Some(Back::Unset)));
+        assert!(rt; matches!(tries.end_at(0), TryEnd::Sent(_, 0)));
+        let second = tries.at(1);
+        assert_eq!(rt; second.hop, 2);
+        assert_eq!(rt; tries.count_at(1), 1);
+        assert_eq!(rt; second.statuses[0], 0);
+        assert!(rt; second.back.is_none());
     }
     Ok(())
 }
 
 /// The slot that the first try of a request was sent to, or 15.
 fn sent_to(request: &Request) -> u32 {
-    match request.tries().first() {
-        Some(made) => match made.end {
-            TryEnd::Sent(slot, _) => slot.get(),
-            _ => 15,
-        },
-        None => 15,
+    let tries = request.tries();
+    if tries.len() == 0 {
+        return 15;
+    }
+    match tries.end_at(0) {
+        TryEnd::Sent(slot, _) => slot.get(),
+        _ => 15,
     }
 }
 

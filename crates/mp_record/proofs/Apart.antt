@@ -11,7 +11,7 @@ use Rattle.mp_record.specs.declared.event.Event.TheVariants as event
 use Rattle.mp_record.specs.declared.event.Said.TheVariants as word
 use Rattle.mp_record.specs.declared.kept.Kept.{Kept}
 use Rattle.mp_record.specs.declared.kept.Kept.TheVariants as kept
-use Rattle.mp_record.specs.Kept.{told, IsBelow, AreBelow}
+use Rattle.mp_record.specs.Kept.{retold, told, IsBelow, AreBelow}
 
 pub at-below : (n : ℕ) (ks : List Kept) (i : ℕ) (d : Kept) → i < length ks → AreBelow n ks → IsBelow n (get_or ks i d)
 at-below n [] i d h a = absurd (omega arith)
@@ -24,6 +24,7 @@ below-push n (x ∷ xs) k a b = (a.0, below-push n xs k a.1 b)
 
 below-one : (n : ℕ) (k : Kept) → IsBelow n k → IsBelow (n + 1) k
 below-one n (kept.Apart place) h = omega arith
+below-one n (kept.Section like ticket) h = omega arith
 below-one n (kept.At line said) h = tt
 below-one n (kept.Try req hop end) h = tt
 below-one n (kept.Done req hop statuses count) h = tt
@@ -35,6 +36,7 @@ below-more n (k ∷ ks) a = (below-one n k a.0, below-more n ks a.1)
 
 told-one : (apart : List Event) (e : Event) (k : Kept) → IsBelow (length apart) k → told (apart ++ e ∷ []) k ≡ told apart k
 told-one apart e (kept.Apart place) h = get_or-append apart (e ∷ []) (event.At 0 word.Idle) place h
+told-one apart e (kept.Section like ticket) h = ap (retold ticket) (get_or-append apart (e ∷ []) (event.At 0 word.Idle) like h)
 told-one apart e (kept.At line said) h = refl
 told-one apart e (kept.Try req hop end) h = refl
 told-one apart e (kept.Done req hop statuses count) h = refl

@@ -79,7 +79,7 @@ fn put_back(text: &mut String, back: Option<Back>) -> Result<(), AllocError>
 }
 
 /// The first `count` of these statuses.
-pub(crate) fn first_statuses(statuses: &[u16; 6], count: u8) -> &[u16]
+fn first_statuses(statuses: &[u16; 6], count: u8) -> &[u16]
     ensures first { result.now ≡ take count statuses.now }
     ensures few { length result.now ≤ 6 }
 {

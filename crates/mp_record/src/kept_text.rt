@@ -1,41 +1,53 @@
 //! The text of kept events.
 
-ghost use Rattle.std.specs.Prelude.{◌≡◌, ◌++◌, OnOk, string_bytes, length};
+ghost use Rattle.std.specs.Prelude.{◌≡◌, ◌||◌, ◌++◌, OnOk, string_bytes, length};
 ghost use Rattle.std.specs.List.{flat_map};
 ghost use Rattle.mp_record.specs.RunView.{is_plain};
 ghost use Rattle.mp_record.specs.NotedText.{noted_event};
-ghost use Rattle.mp_record.specs.Kept.{told, IsBelow, AreBelow};
+ghost use Rattle.mp_record.specs.Kept.{retold, told, IsBelow, AreBelow};
 
 use crate::event::Event;
 use crate::event_text::{put_at, put_event, put_fin, put_try};
-use crate::kept::Kept;
+use crate::kept::{Kept, retold};
+use crate::plain::is_plain;
 use mp_words::trying::Back;
 use std::alloc::AllocError;
 
-/// Whether an event is no section.
-fn is_plain_event(event: &Event) -> bool
-    ensures { result ≡ is_plain event.now }
+/// Whether an event has a line: a section has one only with the notes.
+fn has_line(notes: bool, event: &Event) -> bool
+    ensures { result ≡ (notes || is_plain event.now) }
 {
-    !matches!(event, Event::Sec { .. })
+    notes || is_plain(event)
 }
 
 /// The line of an event; a section has one only with the notes.
 fn put_noted(text: &mut String, notes: bool, event: &Event) -> Result<(), AllocError>
     ensures { OnOk result (string_bytes text.new ≡ string_bytes text.old ++ noted_event notes event.now) }
 {
-    if notes || is_plain_event(event) {
+    if has_line(notes, event) {
         return put_event(text, event);
     }
     Ok(())
 }
 
-/// The line of a kept event. One that is small is no section, so it has a line without the notes too.
+/// The line of an event with another ticket, where it is a section; a section has one only with the notes.
+fn put_retold(text: &mut String, notes: bool, event: &Event, ticket: u32) -> Result<(), AllocError>
+    ensures { OnOk result (string_bytes text.new ≡ string_bytes text.old ++ noted_event notes (retold ticket event.now)) }
+{
+    if has_line(notes, event) {
+        return put_event(text, &retold(event, ticket));
+    }
+    Ok(())
+}
+
+/// The line of a kept event. One that is small and no section has a line without the notes too.
 fn put_kept(text: &mut String, notes: bool, kept: &Kept, apart: &[Event]) -> Result<(), AllocError>
     requires { IsBelow (length apart.now) kept.now }
     ensures { OnOk result (string_bytes text.new ≡ string_bytes text.old ++ noted_event notes (told apart.now kept.now)) }
 {
     match kept {
         Kept::Apart(place) => put_noted(text, notes, &apart[*place]),
+        Kept::Section { like, ticket } => put_retold(text, notes, &apart[*like], *ticket),
         Kept::At { line, said } => put_at(text, *line, *said),
         Kept::Try { req, hop, end } => put_try(text, *req, *hop, *end),
         Kept::Done {

@@ -9,6 +9,7 @@ mod kept_text;
 mod lane_text;
 mod note_text;
 pub mod notes;
+mod plain;
 mod request_text;
 pub mod run;
 #[cfg(test)]

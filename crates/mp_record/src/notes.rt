@@ -1,13 +1,13 @@
 //! The events of one lane.
 
-ghost use Rattle.std.specs.Prelude.{ℕ, ◌≡◌, ◌≤◌, ◌<◌, ◌+◌, List, ◌++◌, ◌∷◌, [], Some, IfSome, OnOk, OnErr, length, string_bytes, slice_get};
-ghost use Rattle.mp_record.specs.Kept.{told, IsBelow};
+ghost use Rattle.std.specs.Prelude.{ℕ, ◌≡◌, ◌≤◌, ◌<◌, ◌+◌, List, ◌++◌, ◌∷◌, [], Some, IfOk, IfSome, OnOk, OnErr, filter, length, string_bytes, slice_get, vec_len, vec_capacity};
+ghost use Rattle.mp_record.specs.RunView.{is_plain};
 ghost use Rattle.mp_record.specs.NotedText.{noted_events};
-ghost use Rattle.mp_record.specs.declared.event.Event.{Event};
 
 use crate::event::{Event, Said};
-use crate::kept::Kept;
+use crate::kept::{Kept, kept_of, retold};
 use crate::kept_text::put_each;
+use crate::plain::plain_of;
 use mp_words::entry::RowEntry;
 use mp_words::note::Note;
 use mp_words::numbers::{ReqId, Slot};
@@ -32,7 +32,8 @@ const ROOM: usize = 16;
 
 /// The events of one lane, in order, and room for more of them.
 ///
-/// Most are small, and kept in place. A section, and the end of a flight that came back with pending set, stand apart.
+/// Most are small, and kept in place. The end of a flight that came back with pending set stands apart, and so does a
+/// section, unless it is like the last that stands apart.
 #[derive(Drop)]
 pub struct LaneNotes {
     kept: Vec<Kept>,
@@ -80,7 +81,7 @@ impl LaneNotes {
         }
         let room = if more < ROOM { ROOM } else { more };
         self.kept.reserve(room).map_err(|_| NoteError::NoMemory)?;
-        self.apart.reserve(room).map_err(|_| NoteError::NoMemory)?;
+        reserve_apart(&mut self.apart, room)?;
         self.room = room;
         Ok(())
     }
@@ -105,7 +106,7 @@ impl LaneNotes {
         let _: Option<Note> = None;
         let _: Option<RowEntry> = None;
         self.room -= 1;
-        match kept_of(&event) {
+        match kept_of(&event, self.apart.as_slice()) {
             Some(kept) => self.kept.push_reserved(kept),
             None => {
                 let place = self.apart.len();
@@ -129,6 +130,7 @@ impl LaneNotes {
     {
         match self.kept[place] {
             Kept::Apart(place) => self.apart[place],
+            Kept::Section { like, ticket } => retold(&self.apart[like], ticket),
             Kept::At { line, said } => Event::At { line, said },
             Kept::Try { req, hop, end } => Event::Try { req, hop, end },
             Kept::Done {
@@ -158,6 +160,27 @@ impl LaneNotes {
         }
     }
 
+    /// The events but for the sections, in order. It has no room for more.
+    ///
+    /// # Errors
+    ///
+    /// `NoMemory` where memory runs out.
+    pub fn without_sections(self, alloc: Global) -> Result<LaneNotes, NoteError>
+        ensures events { IfOk result (λ plain. plain.events ≡ filter is_plain self.events) }
+    {
+        let LaneNotes {
+            kept,
+            apart,
+            room: _,
+        } = self;
+        let kept = plain_of(alloc, &kept, &apart).map_err(|_| NoteError::NoMemory)?;
+        Ok(LaneNotes {
+            kept,
+            apart,
+            room: 0,
+        })
+    }
+
     /// Puts the lines of the events behind a text; a section has one only with the notes.
     pub(crate) fn put(&self, text: &mut String, notes: bool) -> Result<(), AllocError>
         ensures { OnOk result (string_bytes text.new ≡ string_bytes text.old ++ noted_events notes self.now.events) }
@@ -166,45 +189,17 @@ impl LaneNotes {
     }
 }
 
-/// The event as it is kept in place, where it is small.
-fn kept_of(event: &Event) -> Option<Kept>
-    ensures told { IfSome result (λ k. (apart : List Event) → told apart k ≡ event.now) }
-    ensures below { IfSome result (λ k. (n : ℕ) → IsBelow n k) }
+/// Makes room for this many more events that stand apart, and for an eighth of those that there are at most.
+fn reserve_apart(apart: &mut Vec<Event>, room: usize) -> Result<(), NoteError>
+    ensures items { apart.new.items ≡ apart.old.items }
+    ensures len { vec_len apart.new ≡ vec_len apart.old }
+    ensures capacity { vec_capacity apart.old ≤ vec_capacity apart.new }
+    ensures room { OnOk result (vec_len apart.new + room ≤ vec_capacity apart.new) }
 {
-    match event {
-        Event::At { line, said } => Some(Kept::At {
-            line: *line,
-            said: *said,
-        }),
-        Event::Try { req, hop, end } => Some(Kept::Try {
-            req: *req,
-            hop: *hop,
-            end: *end,
-        }),
-        Event::Fin {
-            req,
-            hop,
-            statuses,
-            count,
-            back: None,
-        } => Some(Kept::Done {
-            req: *req,
-            hop: *hop,
-            statuses: *statuses,
-            count: *count,
-        }),
-        Event::Fin {
-            req,
-            hop,
-            statuses,
-            count,
-            back: Some(Back::Unset),
-        } => Some(Kept::Unset {
-            req: *req,
-            hop: *hop,
-            statuses: *statuses,
-            count: *count,
-        }),
-        _ => None,
+    if room <= apart.capacity() - apart.len() {
+        return Ok(());
     }
+    let eighth = apart.len() / 8;
+    let more = if room < eighth { eighth } else { room };
+    apart.reserve_exact(more).map_err(|_| NoteError::NoMemory)
 }

@@ -7,7 +7,6 @@ ghost use Rattle.mp_record.specs.Words.{one_number, list_word};
 ghost use Rattle.mp_record.specs.RunText.{as_written, trail, try_names, version_name, outcome_word};
 ghost use Rattle.mp_record.specs.NotedText.{tries_line, asked_line};
 
-use crate::event_text::first_statuses;
 use crate::words::{put_comma, put_dash, put_two};
 use itoa::Buffer;
 use mp_topology::names::controller_name;
@@ -17,47 +16,10 @@ use mp_words::numbered::Numbered;
 use mp_words::numbers::{Node, ReqId, Slot};
 use mp_words::request::Request;
 use mp_words::status::put_status;
-use mp_words::trying::{Outcome, Try, TryEnd};
+use mp_words::tries::Tries;
+use mp_words::trying::{Outcome, TryEnd};
 use sqlite_items::Items;
 use std::alloc::AllocError;
-
-/// How a request stands after a try.
-fn outcome_after_try(made: &Try) -> Outcome
-    ensures { result ≡ outcome_of (Some (tried_of made.now)) }
-{
-    match made.end {
-        TryEnd::Listed => Outcome::Waiting,
-        TryEnd::Failed => Outcome::Failed,
-        TryEnd::Sent(_, _) => match made.back {
-            Some(_) => Outcome::Waiting,
-            None => match first_statuses(&made.statuses, made.count).last() {
-                None => Outcome::Sent,
-                Some(status) => Outcome::Done(*status),
-            },
-        },
-    }
-}
-
-/// How a request with these tries stands.
-fn outcome(tries: &[Try]) -> Outcome
-    ensures { result ≡ outcome_of (last_or None (map tried_of tries.now)) }
-{
-    match tries.last() {
-        None => Outcome::Waiting,
-        Some(made) => outcome_after_try(made),
-    }
-}
-
-/// The number of attempts of these tries.
-fn attempts(tries: &[Try]) -> u128
-    ensures { result ≡ attempts_of (map tried_of tries.now) }
-{
-    let mut attempts: u128 = 0;
-    for made in tries {
-        attempts += first_statuses(&made.statuses, made.count).len() as u128;
-    }
-    attempts
-}
 
 /// The name of the controller of this version of the slot's row, or nothing where there is no such version.
 fn sent_name<'t>(
@@ -82,13 +44,13 @@ fn put_trail(
     text: &mut String,
     topology: &Topology,
     rows: &[Items<RowEntry>],
-    tries: &[Try],
+    tries: &Tries,
 ) -> Result<(), AllocError>
-    ensures { OnOk result (string_bytes text.new ≡ string_bytes text.old ++ list_word as_written (trail topology.now rows.now (map tried_of tries.now))) }
+    ensures { OnOk result (string_bytes text.new ≡ string_bytes text.old ++ list_word as_written (trail topology.now rows.now (map tried_of tries.now.items))) }
 {
     let mut further = false;
-    for made in tries {
-        if let TryEnd::Sent(slot, version) = made.end {
+    for place in 0..tries.len() {
+        if let TryEnd::Sent(slot, version) = tries.end_at(place) {
             put_comma(text, further)?;
             text.push_str(sent_name(topology, rows, slot, version))?;
             further = true;
@@ -113,14 +75,13 @@ fn put_outcome(text: &mut String, outcome: Outcome) -> Result<(), AllocError>
 }
 
 /// How a request with these tries stands, and after how many attempts.
-fn put_end(text: &mut String, tries: &[Try]) -> Result<(), AllocError>
-    ensures { OnOk result (string_bytes text.new ≡ string_bytes text.old ++ one_number (outcome_word (outcome_of (last_or None (map tried_of tries.now)))) (attempts_of (map tried_of tries.now))) }
+fn put_end(text: &mut String, tries: &Tries) -> Result<(), AllocError>
+    ensures { OnOk result (string_bytes text.new ≡ string_bytes text.old ++ one_number (outcome_word (outcome_of (last_or None (map tried_of tries.now.items)))) (attempts_of (map tried_of tries.now.items))) }
 {
-    put_outcome(text, outcome(tries))?;
-    let attempts = attempts(tries);
+    put_outcome(text, tries.outcome())?;
     let mut buffer = Buffer::new();
     text.push_str(" ")?;
-    text.push_str(buffer.format(attempts))
+    text.push_str(buffer.format(tries.attempts()))
 }
 
 /// The line of a request of this number with these tries, that was submitted on this node.
@@ -130,9 +91,9 @@ pub(crate) fn put_request(
     rows: &[Items<RowEntry>],
     id: ReqId,
     node: Node,
-    tries: &[Try],
+    tries: &Tries,
 ) -> Result<(), AllocError>
-    ensures { OnOk result (string_bytes text.new ≡ string_bytes text.old ++ tries_line topology.now rows.now id node tries.now) }
+    ensures { OnOk result (string_bytes text.new ≡ string_bytes text.old ++ tries_line topology.now rows.now id node tries.now.items) }
 {
     put_two(text, "request", id.get(), node.get())?;
     text.push_str(" ")?;

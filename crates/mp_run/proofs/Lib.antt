@@ -53,7 +53,6 @@ pub mod ClosedLanes
 pub mod OpeningBegins
 pub mod SerialWhole
 pub mod OrdersIn
-pub mod PlainNotes
 pub mod ByRequest
 pub mod Outcomes
 pub mod Asking

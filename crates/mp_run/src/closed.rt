@@ -6,7 +6,6 @@ ghost use Rattle.mp_record.specs.RunView.{events_of};
 ghost use Rattle.mp_run.specs.Closing.{ended_at, notes_at, rows_at};
 
 use crate::error::RunError;
-use crate::plain_notes::without_sections;
 use mp_lane::lane::Lane;
 use mp_record::event::Event;
 use mp_record::notes::LaneNotes;
@@ -33,7 +32,10 @@ fn close(closed: &mut Closed, alloc: Global, lane: Lane) -> Result<(), RunError>
     // The proof of a push needs each type inside notes named here.
     let _: Option<Event> = None;
     let (notes, mut rows, mut ended) = lane.close();
-    closed.notes.push(without_sections(alloc, &notes)?)?;
+    let Ok(notes) = notes.without_sections(alloc) else {
+        return Err(RunError::NoMemory);
+    };
+    closed.notes.push(notes)?;
     closed.rows.append(&mut rows)?;
     closed.ended.append(&mut ended)?;
     Ok(())

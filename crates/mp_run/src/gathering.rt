@@ -15,7 +15,6 @@ use crate::closed::close_all;
 use crate::error::RunError;
 use crate::first_words::opening;
 use crate::opening::opening_order;
-use crate::plain_notes::without_sections;
 use crate::runner::Runner;
 use crate::turns::lane_of;
 use mp_desk::desk::Desk;
@@ -128,7 +127,9 @@ pub fn gathered(
         rows,
     } = drain;
     let closed = close_all(alloc, lanes)?;
-    let drained = without_sections(alloc, &notes)?;
+    let Ok(drained) = notes.without_sections(alloc) else {
+        return Err(RunError::NoMemory);
+    };
     let requests = requests_in(closed.ended, list.take_all(), ended.into_vec())?;
     let entries = entries_in(closed.rows, rows.into_vec())?;
     let made = keeping(alloc, opening_order(&world.topology), keeper.entries())?;

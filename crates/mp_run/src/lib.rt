@@ -12,7 +12,6 @@ mod gathering;
 mod help;
 pub mod laws;
 mod opening;
-mod plain_notes;
 mod reading;
 pub mod run;
 mod runner;

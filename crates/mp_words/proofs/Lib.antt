@@ -1,3 +1,4 @@
+pub mod Alike
 pub mod Behinds
 pub mod Effects
 pub mod Hex
@@ -9,3 +10,4 @@ pub mod Paths
 pub mod Places
 pub mod Rising
 pub mod Rows
+pub mod ToldTries

@@ -8,6 +8,9 @@ pub mod PathTable
 pub mod Effect
 pub mod Facts
 pub mod RequestView
+pub mod Like
+pub mod TriesView
+pub mod KeptTry
 pub mod Request
 pub mod Answers
 pub mod States

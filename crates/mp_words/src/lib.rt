@@ -7,8 +7,10 @@ pub mod effect;
 pub mod effect_laws;
 pub mod entry;
 pub mod flight;
+mod kept_try;
 mod later;
 pub mod laws;
+pub mod like;
 pub mod name;
 pub mod name_laws;
 pub mod names;
@@ -29,5 +31,6 @@ pub mod states;
 pub mod status;
 #[cfg(test)]
 mod tests;
+pub mod tries;
 pub mod trying;
 pub mod words;

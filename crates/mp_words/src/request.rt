@@ -1,18 +1,13 @@
 //! A request with its tries.
 
-ghost use Rattle.std.specs.Prelude.{◌≡◌, ◌≤◌, ◌+◌, ◌++◌, ◌∷◌, [], OnOk, OnErr, Err, Some, None, length, map, take, vec_len, vec_capacity};
+ghost use Rattle.std.specs.Prelude.{◌≡◌, ◌≤◌, ◌+◌, ◌++◌, ◌∷◌, [], OnOk, OnErr, Err, None, length};
 ghost use Rattle.std.specs.List.{last_or};
-ghost use Rattle.mp_words.specs.Request.{outcome_of, attempts_of, tried_of, asked_of, ended_tries, done_with};
+ghost use Rattle.mp_words.specs.Request.{outcome_of, attempts_of, asked_of, ended_tries};
 
-use crate::entry::RowEntry;
-use crate::note::Note;
 use crate::numbered::Numbered;
 use crate::numbers::{Node, ReqId};
-use crate::op::{Gift, Maker, Op};
-use crate::order::Order;
-use crate::reading::Reading;
-use crate::row::{CState, Policy, Row};
-use crate::trying::{Back, Outcome, Try, TryEnd};
+use crate::tries::Tries;
+use crate::trying::{Back, Outcome, Try};
 use std::alloc::Global;
 use std::marker::Model;
 use thiserror::Error;
@@ -32,18 +27,18 @@ pub enum SubmitError {
 pub struct Request {
     id: ReqId,
     node: Node,
-    tries: Vec<Try>,
+    tries: Tries,
 }
 
 impl Model for Request {
-    ghost use Rattle.std.specs.Prelude.{◌≤◌, vec_len, vec_capacity, ◌-◌, min};
+    ghost use Rattle.std.specs.Prelude.{◌≤◌, ◌+◌, length};
     ghost use Rattle.mp_words.specs.RequestView.{RequestView};
 
     ghost Value = { RequestView };
 
-    ghost view = { λ r. record { id = r.id; node = r.node; tries = r.tries.items; spare = min (vec_capacity r.tries) 67108864 - vec_len r.tries } };
+    ghost view = { λ r. record { id = r.id; node = r.node; tries = r.tries.items; spare = r.tries.spare } };
 
-    ghost invariant = { λ r. vec_len r.tries ≤ 67108864 };
+    ghost invariant = { λ r. length r.tries.items + r.tries.spare ≤ 67108864 };
 }
 
 impl Request {
@@ -56,7 +51,7 @@ impl Request {
         Request {
             id,
             node,
-            tries: Vec::new(alloc),
+            tries: Tries::make(alloc),
         }
     }
 
@@ -79,22 +74,15 @@ impl Request {
         if self.tries.len() == MOST_TRIES {
             return Err(SubmitError::NoMemory);
         }
-        // Most requests are tried once, so the first try gets just its room.
-        if self.tries.is_empty() {
-            return self
-                .tries
-                .reserve_exact(1)
-                .map_err(|_| SubmitError::NoMemory);
-        }
-        self.tries.reserve(1).map_err(|_| SubmitError::NoMemory)
+        self.tries.reserve().map_err(|_| SubmitError::NoMemory)
     }
 
     /// The tries, in order, at most 67,108,864, and fewer where there is room for one more.
-    pub fn tries(&self) -> &[Try]
-        ensures tries { result.now ≡ self.now.tries }
+    pub fn tries(&self) -> &Tries
+        ensures tries { result.now.items ≡ self.now.tries }
         ensures most { length self.now.tries + self.now.spare ≤ 67108864 }
     {
-        self.tries.as_slice()
+        &self.tries
     }
 
     /// The number of the next try: the first has the number 1.
@@ -116,17 +104,14 @@ impl Request {
         ensures count { result ≡ attempts_of (asked_of self.now).tries }
         ensures most { result ≤ 402653184 }
     {
-        attempts_in(self.tries.as_slice())
+        self.tries.attempts()
     }
 
     /// How the request stands: it waits without tries, after a listed try and after one that came back.
     pub fn outcome(&self) -> Outcome
         ensures { result ≡ outcome_of (last_or None (asked_of self.now).tries) }
     {
-        match self.tries.as_slice().last() {
-            None => Outcome::Waiting,
-            Some(last) => outcome_after(last),
-        }
+        self.tries.outcome()
     }
 
     /// Appends a try whose attempts are still to come. It takes no memory.
@@ -141,12 +126,7 @@ impl Request {
         ensures node { self.new.node ≡ self.old.node }
         ensures room { self.old.spare ≤ self.new.spare + 1 }
     {
-        // The proof of a push needs each type inside a try named here.
-        let _: (Option<TryEnd>, Option<Back>, Option<RowEntry>) = (None, None, None);
-        let _: (Option<Order>, Option<Row>, Option<Reading>) = (None, None, None);
-        let _: (Option<Note>, Option<Op>, Option<Maker>) = (None, None, None);
-        let _: (Option<CState>, Option<Policy>, Option<Gift>) = (None, None, None);
-        let _ = self.tries.push(made);
+        self.tries.push(made);
     }
 
     /// Writes the statuses of the attempts into the last try, of which the first `count` count, and how the request
@@ -160,7 +140,7 @@ impl Request {
         ensures node { self.new.node ≡ self.old.node }
         ensures room { self.new.spare ≡ self.old.spare }
     {
-        end_last(&mut self.tries, statuses, count, back);
+        self.tries.end_last(statuses, count, back);
     }
 }
 
@@ -178,65 +158,4 @@ impl Numbered for Request {
     fn id(&self) -> ReqId {
         self.id
     }
-}
-
-/// How a request stands after this try.
-fn outcome_after(last: &Try) -> Outcome
-    ensures { result ≡ outcome_of (Some (tried_of last.now)) }
-{
-    match last.end {
-        TryEnd::Listed => Outcome::Waiting,
-        TryEnd::Failed => Outcome::Failed,
-        TryEnd::Sent(_, _) => match last.back {
-            Some(_) => Outcome::Waiting,
-            None => done_with(&last.statuses, last.count),
-        },
-    }
-}
-
-/// How a sent request stands that didn't come back, by the statuses of which the first `count` count.
-fn done_with(statuses: &[u16; 6], count: u8) -> Outcome
-    ensures { result ≡ done_with (last_or None (take count statuses.now)) }
-{
-    let count = usize::from(count).min(6);
-    if count == 0 {
-        Outcome::Sent
-    } else {
-        Outcome::Done(statuses[count - 1])
-    }
-}
-
-/// How many attempts a try made.
-fn count_of(made: &Try) -> u32
-    ensures count { result ≡ length (tried_of made.now).statuses }
-    ensures most { result ≤ 6 }
-{
-    u32::from(made.count.min(6))
-}
-
-/// How many attempts these tries made.
-fn attempts_in(tries: &[Try]) -> u32
-    requires { length tries.now ≤ 67108864 }
-    ensures count { result ≡ attempts_of (map tried_of tries.now) }
-    ensures most { result ≤ 402653184 }
-{
-    let mut attempts = 0u32;
-    for made in tries {
-        attempts += count_of(made);
-    }
-    attempts
-}
-
-/// Writes into the last try how it ended.
-fn end_last(tries: &mut Vec<Try>, statuses: [u16; 6], count: u8, back: Option<Back>)
-    requires { 1 ≤ vec_len tries.old }
-    ensures tries { tries.new.items ≡ ended_tries statuses count back tries.old.items }
-    ensures length { vec_len tries.new ≡ vec_len tries.old }
-    ensures capacity { vec_capacity tries.new ≡ vec_capacity tries.old }
-{
-    let last = tries.len() - 1;
-    let made = &mut tries[last];
-    made.statuses = statuses;
-    made.count = count;
-    made.back = back;
 }

@@ -2,7 +2,7 @@
 
 ghost use Rattle.std.specs.Prelude.{◌≡◌, None};
 ghost use Rattle.mp_words.specs.TwoPaths.{first_path};
-ghost use Rattle.mp_words.specs.declared.trying.TryEnd.TheVariants.{Sent};
+ghost use Rattle.mp_words.specs.declared.trying.TryEnd.TheVariants.{Listed, Sent};
 
 use crate::answers::Answers;
 use crate::effect::free_row;
@@ -136,6 +136,54 @@ fn a_request_is_tried(rt: HostRuntime) -> Result<(), Fail> {
         Outcome::Done(status) => assert_eq!(rt; status, 0),
         _ => assert!(rt; false),
     }
+    Ok(())
+}
+
+/// A try that is listed, whose section had this ticket.
+fn listed(hop: u32, ticket: u32) -> Try
+    ensures hop { result.hop ≡ hop }
+    ensures end { result.end ≡ Listed }
+    ensures count { result.count ≡ 0 }
+    ensures back { result.back ≡ None }
+{
+    let mut made = sent(hop);
+    made.end = TryEnd::Listed;
+    made.note.ticket = ticket;
+    made
+}
+
+#[test]
+fn thousands_of_tries_are_read_back(rt: HostRuntime) -> Result<(), Fail> {
+    let mut request = Request::make(rt.alloc(), ReqId::make(7).unwrap(), Node::make(0).unwrap());
+    for ticket in 0..5_000u32 {
+        request.reserve()?;
+        let hop = request.next();
+        if matches!(request.outcome(), Outcome::Waiting) {
+            request.tried(listed(hop, ticket / 2));
+        }
+    }
+    request.reserve()?;
+    let hop = request.next();
+    if matches!(request.outcome(), Outcome::Waiting) {
+        request.tried(sent(hop));
+    }
+    if matches!(request.outcome(), Outcome::Sent) {
+        request.ended([0x2C5, 0, 0, 0, 0, 0], 2, None);
+    }
+    let tries = request.tries();
+    assert_eq!(rt; (tries.len(), request.attempts()), (5_001, 2));
+    for place in 0..tries.len() {
+        let made = tries.at(place);
+        assert_eq!(rt; made.hop as usize, place + 1);
+        if place < 5_000 {
+            assert_eq!(rt; made.note.ticket as usize, place / 2);
+            assert!(rt; matches!(tries.end_at(place), TryEnd::Listed));
+            assert_eq!(rt; tries.count_at(place), 0);
+        } else {
+            assert_eq!(rt; (made.statuses[0], made.count), (0x2C5, 2));
+        }
+    }
+    assert!(rt; matches!(tries.last(), Some(Try { hop: 5_001, .. })));
     Ok(())
 }
 

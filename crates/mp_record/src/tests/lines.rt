@@ -7,11 +7,13 @@ use crate::history_text::{put_keeping, put_rows};
 use crate::request_text::put_request;
 use mp_words::entry::{Closing, Grace, KeepEntry, OrderEntry, RowEntry};
 use mp_words::note::Note;
+use mp_words::numbered::Numbered;
 use mp_words::numbers::{LaneId, Node, Slot};
 use mp_words::op::Maker;
 use mp_words::reading::Reading;
+use mp_words::request::{Request, SubmitError};
 use mp_words::row::{CState, Policy};
-use mp_words::trying::{Back, Try, TryEnd};
+use mp_words::trying::{Back, Outcome, Try, TryEnd};
 use std::alloc::{AllocError, Global};
 use std::test::Fail;
 
@@ -258,63 +260,95 @@ fn writes_each_version_of_a_row(rt: HostRuntime) -> Result<(), Fail> {
     Ok(())
 }
 
-/// A try with this end and the first `count` of three statuses.
-fn tried(end: TryEnd, count: u8, back: Option<Back>) -> Try {
-    Try {
-        hop: 1,
-        end,
-        note: nothing_read(),
-        statuses: [0x302, 6, 0x10a, 0, 0, 0],
-        count,
-        back,
-    }
+/// Request 7, without tries.
+fn asked(alloc: Global) -> Request {
+    Request::make(alloc, request(7), Node::make(5).unwrap())
 }
 
-/// The line of request 7 with these tries.
-fn line_of(alloc: Global, tries: &[Try]) -> Result<String, AllocError> {
+/// Adds a try with this end to a request that waits, and ends one that was sent with the first `count` of three
+/// statuses.
+fn add(asked: &mut Request, end: TryEnd, count: u8, back: Option<Back>) -> Result<(), SubmitError> {
+    asked.reserve()?;
+    let Outcome::Waiting = asked.outcome() else {
+        return Ok(());
+    };
+    asked.tried(Try {
+        hop: asked.next(),
+        end,
+        note: nothing_read(),
+        statuses: [0; 6],
+        count: 0,
+        back: None,
+    });
+    let Outcome::Sent = asked.outcome() else {
+        return Ok(());
+    };
+    if 1 <= count && count <= 6 {
+        asked.ended([0x302, 6, 0x10a, 0, 0, 0], count, back);
+    }
+    Ok(())
+}
+
+/// A try on controller a that came back after two attempts.
+fn add_lost(asked: &mut Request) -> Result<(), SubmitError> {
+    add(asked, TryEnd::Sent(slot(0), 0), 2, Some(Back::Unset))
+}
+
+/// A try on controller b that was done after three attempts.
+fn add_ended(asked: &mut Request) -> Result<(), SubmitError> {
+    add(asked, TryEnd::Sent(slot(1), 0), 3, None)
+}
+
+fn add_listed(asked: &mut Request) -> Result<(), SubmitError> {
+    add(asked, TryEnd::Listed, 0, None)
+}
+
+fn add_failed(asked: &mut Request) -> Result<(), SubmitError> {
+    add(asked, TryEnd::Failed, 0, None)
+}
+
+/// The line of a request.
+fn line_of(alloc: Global, asked: &Request) -> Result<String, AllocError> {
     let mut text = String::new(alloc);
     let topology = topology(alloc)?;
     let rows = rows(alloc)?;
-    let node = Node::make(5).unwrap();
     put_request(
         &mut text,
         &topology,
         rows.as_slice(),
-        request(7),
-        node,
-        tries,
+        asked.id(),
+        asked.node(),
+        asked.tries(),
     )?;
     Ok(text)
-}
-
-/// A try on controller a that came back after two attempts.
-fn lost() -> Try {
-    tried(TryEnd::Sent(slot(0), 0), 2, Some(Back::Unset))
-}
-
-/// A try on controller b that was done after three attempts.
-fn ended() -> Try {
-    tried(TryEnd::Sent(slot(1), 0), 3, None)
-}
-
-fn listed() -> Try {
-    tried(TryEnd::Listed, 0, None)
-}
-
-fn failed() -> Try {
-    tried(TryEnd::Failed, 0, None)
 }
 
 #[test]
 fn writes_trails_and_outcomes(rt: HostRuntime) -> Result<(), Fail> {
     let alloc = rt.alloc();
-    let text = line_of(alloc, &[lost(), listed(), ended()])?;
-    assert_eq!(rt; text.as_str(), "request 7 5 a,b done 010A 5\n");
-    let text = line_of(alloc, &[lost(), failed()])?;
-    assert_eq!(rt; text.as_str(), "request 7 5 a failed 2\n");
-    let text = line_of(alloc, &[lost()])?;
-    assert_eq!(rt; text.as_str(), "request 7 5 a listed 2\n");
-    let text = line_of(alloc, &[listed()])?;
-    assert_eq!(rt; text.as_str(), "request 7 5 - listed 0\n");
+    let mut first = asked(alloc);
+    assert_eq!(rt;
+        line_of(alloc, &first)?.as_str(),
+        "request 7 5 - listed 0\n"
+    );
+    add_lost(&mut first)?;
+    assert_eq!(rt;
+        line_of(alloc, &first)?.as_str(),
+        "request 7 5 a listed 2\n"
+    );
+    add_listed(&mut first)?;
+    add_listed(&mut first)?;
+    add_ended(&mut first)?;
+    assert_eq!(rt;
+        line_of(alloc, &first)?.as_str(),
+        "request 7 5 a,b done 010A 5\n"
+    );
+    let mut second = asked(alloc);
+    add_lost(&mut second)?;
+    add_failed(&mut second)?;
+    assert_eq!(rt;
+        line_of(alloc, &second)?.as_str(),
+        "request 7 5 a failed 2\n"
+    );
     Ok(())
 }

@@ -6,8 +6,8 @@ use Rattle.mp_record.proofs.Trails.{trail_of}
 use Rattle.mp_record.proofs.request_text.put_trail.Given as goal
 
 -- the names of the tries so far stand in the text
-abbrev pub invariant-loop-made : goal.invariant-loop-made
-invariant-loop-made l = record {
-  text : string_bytes l.text ≡ string_bytes l.initial.text ++ joined as_written (trail_of l.topology l.rows l.tries l.made-index);
-  further : l.further ≡ has_items (trail_of l.topology l.rows l.tries l.made-index);
+abbrev pub invariant-loop-place : goal.invariant-loop-place
+invariant-loop-place l = record {
+  text : string_bytes l.text ≡ string_bytes l.initial.text ++ joined as_written (trail_of l.topology l.rows l.tries.items l.place);
+  further : l.further ≡ has_items (trail_of l.topology l.rows l.tries.items l.place);
 }

@@ -1,6 +1,6 @@
 use Rattle.std.proofs.Common.{◌≡◌, ◌+◌, ◌<◌, ◌++◌, ◌∷◌, [], length, vec_len, sym, ap, subst, ◌∙◌, arith}
 use Rattle.mp_record.specs.declared.kept.Kept.TheVariants as kept
-use Rattle.mp_record.specs.Kept.{AreBelow}
+use Rattle.mp_record.specs.Kept.{IsBelow, AreBelow}
 use Rattle.mp_record.proofs.Apart.{below-push, below-more, told-apart}
 use Rattle.mp_record.proofs.notes.LaneNotes.push.Goals as goal
 
@@ -8,7 +8,8 @@ pub invariant_of-self : goal.invariant_of-self
 invariant_of-self c =
     let n = vec_len c.self.inside.apart in
     let room : c.self.inside.room ≡ c.args.self.now.spare = ap (λ v. v.spare) c.self.view_is in
-    let a = below-push n c.self.inside.kept.items c.in-Some.kept c.self.invariant.0 (c.in-Some.ensures.below n) in
+    let low : IsBelow n c.in-Some.kept = subst (λ m. IsBelow m c.in-Some.kept) c.as_slice.ensures.len c.in-Some.ensures.below in
+    let a = below-push n c.self.inside.kept.items c.in-Some.kept c.self.invariant.0 low in
     let p = c.push_reserved.ensures in (
       subst (AreBelow n) (sym p.items) a,
       omega (arith, room, c.requires, p.len, p.capacity, c.self.invariant.1),
