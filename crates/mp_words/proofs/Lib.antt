@@ -11,3 +11,4 @@ pub mod Places
 pub mod Rising
 pub mod Rows
 pub mod ToldTries
+pub mod Wholes

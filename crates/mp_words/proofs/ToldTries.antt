@@ -1,19 +1,22 @@
 -- Kept tries tell what they told when others come, and when the last one ends.
-use Rattle.std.proofs.Common.{◌≡◌, ℕ, ◌+◌, ◌-◌, ◌<◌, ◌≤◌, zero, suc, List, [], ◌∷◌, ◌++◌, length, map, get_or, refl, sym, ap, ◌∙◌, Some, None, arith, drop, subst}
+use Rattle.std.proofs.Common.{◌≡◌, ℕ, ◌+◌, ◌-◌, ◌*◌, ◌<◌, ◌≤◌, zero, suc, List, [], ◌∷◌, ◌++◌, length, map, get_or, refl, sym, ap, ◌∙◌, Some, None, arith, take, length-take, drop, subst, Option}
 use Rattle.std.specs.Prelude.{slice_get, option_map}
-use Rattle.std.specs.List.{last_or}
-use Rattle.std.proofs.lemmas.Option.{slice_get-get_or, get_or_from_slice_get}
+use Rattle.std.specs.List.{last_or, AllByRecursion}
+use Rattle.std.proofs.lemmas.Option.{none-some, slice_get-get_or, slice_get_within, get_or_from_slice_get}
 use Rattle.std.proofs.lemmas.List.{get_or-map, length-map, map-append, at_drop_more, at_drop_all}
 use Rattle.std.proofs.lemmas.List.Sums.{sum_by-cons}
 use Rattle.std.proofs.Math.ListN.{get_or-append}
 use Rattle.std.proofs.Math.Seq.{get_or-append_seam}
 use Rattle.mp_words.specs.declared.trying.Try.{Try}
+use Rattle.mp_words.specs.declared.trying.Back.{Back}
 use Rattle.mp_words.specs.declared.trying.Outcome.TheVariants.{Sent}
+use Rattle.mp_words.specs.declared.trying.TryEnd.{TryEnd}
+use Rattle.mp_words.specs.declared.trying.TryEnd.TheVariants as end
 use Rattle.mp_words.specs.declared.kept_try.KeptTry.{KeptTry}
 use Rattle.mp_words.specs.declared.kept_try.KeptTry.TheVariants as kept
 use Rattle.mp_words.specs.KeptTry.{told, no_try, as_again, AreFit, IsAgain}
-use Rattle.mp_words.proofs.Last.{last_or-map, last_or-map_some}
-use Rattle.mp_words.specs.Request.{Tried, map_last, tried_of, outcome_of, attempts_of}
+use Rattle.mp_words.proofs.Last.{last_or-at, last_or-map}
+use Rattle.mp_words.specs.Request.{Tried, map_last, tried_of, outcome_of, outcome_after, done_with, attempts_of, ended_try, ended_tries, IsShort}
 
 -- what a kept try looks up is there
 abbrev pub IsBelow : ℕ → KeptTry → Type 0
@@ -115,52 +118,37 @@ told-ended f whole m (kept.Again hop ticket like ∷ k ∷ ks) a s =
 pub told-end : (f : Try → Try) (whole : List Try) (ks : List KeptTry) → AreFit (length whole) 0 ks → outcome_of (last_or None (map tried_of (map (told whole) ks))) ≡ Sent → map (told (map_last f whole)) ks ≡ map_last f (map (told whole) ks)
 told-end f whole ks a s = told-ended f whole 0 ks a s
 
--- what is told at a place
-pub told-at : (whole : List Try) (ks : List KeptTry) (i : ℕ) (k : KeptTry) → i < length (map (told whole) ks) → k ≡ get_or ks i k → slice_get (map (told whole) ks) i ≡ Some (told whole k)
-told-at whole ks i k h at =
-    let lt : i < length ks = omega (arith, h, length-map ks (told whole)) in
-    slice_get-get_or (map (told whole) ks) i (told whole k) h
-    ∙ ap Some (get_or-map (told whole) ks i k (told whole k) lt ∙ ap (told whole) (sym at))
-
 pub same-at : (xs : List Try) (i : ℕ) (d x : Try) → i < length xs → x ≡ get_or xs i x → get_or xs i d ≡ x
 same-at xs i d x h at = get_or_from_slice_get xs i x d (slice_get-get_or xs i x h ∙ ap Some (sym at))
 
--- a kept one that was found tells what stands there
-pub told-there : (items whole : List Try) (ks : List KeptTry) (i : ℕ) (r k : KeptTry) → map (told whole) ks ≡ items → i < length items → r ≡ get_or ks i r → r ≡ k → slice_get items i ≡ Some (told whole k)
-told-there items whole ks i r k e h at is =
-    ap (λ ts. slice_get ts i) (sym e) ∙ told-at whole ks i r (subst (λ ts. i < length ts) (sym e) h) at ∙ ap (λ x. Some (told whole x)) is
+-- what is told at a place
+pub told-there : (items whole : List Try) (ks : List KeptTry) (i : ℕ) (k : KeptTry) → map (told whole) ks ≡ items → slice_get ks i ≡ Some k → slice_get items i ≡ Some (told whole k)
+told-there items whole ks i k e at =
+    let lt : i < length ks = slice_get_within ks i k at in
+    let far : i < length (map (told whole) ks) = omega (arith, lt, length-map ks (told whole)) in
+    ap (λ ts. slice_get ts i) (sym e) ∙ slice_get-get_or (map (told whole) ks) i (told whole k) far
+    ∙ ap Some (get_or-map (told whole) ks i k (told whole k) lt ∙ ap (told whole) (get_or_from_slice_get ks i k k at))
 
 -- what it looks up is there
-pub kept-there : (n : ℕ) (items whole : List Try) (ks : List KeptTry) (i : ℕ) (r k : KeptTry) → AreFit n 0 ks → map (told whole) ks ≡ items → i < length items → r ≡ get_or ks i r → r ≡ k → IsBelow n k
-kept-there n items whole ks i r k a e h at is =
-    let lt : i < length ks = omega (arith, subst (λ ts. i < length ts) (sym e) h, length-map ks (told whole)) in
-    subst (IsBelow n) (sym at ∙ is) (fit-below n 0 ks i r lt a)
+pub kept-there : (n : ℕ) (ks : List KeptTry) (i : ℕ) (k : KeptTry) → AreFit n 0 ks → slice_get ks i ≡ Some k → IsBelow n k
+kept-there n ks i k a at = subst (IsBelow n) (get_or_from_slice_get ks i k k at) (fit-below n 0 ks i k (slice_get_within ks i k at) a)
 
--- what the last kept one tells
-pub last-told : (items whole : List Try) (ks : List KeptTry) (r k : KeptTry) → map (told whole) ks ≡ items → Some r ≡ slice_get ks (length ks - 1) → r ≡ k → last_or None (map tried_of items) ≡ Some (tried_of (told whole k))
-last-told items whole ks r k e at is =
-    ap (λ ts. last_or None (map tried_of ts)) (sym e) ∙ last_or-map tried_of (map (told whole) ks)
-    ∙ ap (option_map tried_of) (last_or-map_some (told whole) ks r at) ∙ ap (λ x. Some (tried_of (told whole x))) is
+-- what the last kept one tells, where there is one
+pub last-told : (items whole : List Try) (ks : List KeptTry) (o : Option KeptTry) → map (told whole) ks ≡ items → last_or None ks ≡ o → last_or None items ≡ option_map (told whole) o
+last-told items whole ks o e at = ap (last_or None) (sym e) ∙ last_or-map (told whole) ks ∙ ap (option_map (told whole)) at
 
 -- what it looks up is there
-pub last-below : (n : ℕ) (ks : List KeptTry) (r k : KeptTry) → AreFit n 0 ks → Some r ≡ slice_get ks (length ks - 1) → r ≡ k → IsBelow n k
-last-below n [] r k a at is = absurd cc
-last-below n (x ∷ xs) r k a at is =
-    let here : get_or (x ∷ xs) (length (x ∷ xs) - 1) r ≡ r = get_or_from_slice_get (x ∷ xs) (length (x ∷ xs) - 1) r r (sym at) in
-    subst (IsBelow n) (here ∙ is) (fit-below n 0 (x ∷ xs) (length (x ∷ xs) - 1) r (omega arith) a)
-
--- the last one by its place
-pub last-at : (xs : List Try) (n : ℕ) (x : Try) → length xs ≡ n + 1 → slice_get xs n ≡ Some x → last_or None xs ≡ Some x
-last-at [] n x e h = absurd (omega arith)
-last-at (y ∷ []) zero x e h = h
-last-at (y ∷ []) (suc n) x e h = absurd (omega arith)
-last-at (y ∷ z ∷ xs) zero x e h = absurd (omega arith)
-last-at (y ∷ z ∷ xs) (suc n) x e h = last-at (z ∷ xs) n x (omega arith) h
+pub last-below : (n m : ℕ) (ks : List KeptTry) (k : KeptTry) → AreFit n m ks → last_or None ks ≡ Some k → IsBelow n k
+last-below n m [] k a at = absurd cc
+last-below n m (kept.Whole place ∷ []) k a at = let is : kept.Whole place ≡ k = cc in subst (IsBelow n) is (fit-below n m (kept.Whole place ∷ []) 0 k (omega arith) a)
+last-below n m (kept.Again hop ticket like ∷ []) k a at = let is : kept.Again hop ticket like ≡ k = cc in subst (IsBelow n) is (fit-below n m (kept.Again hop ticket like ∷ []) 0 k (omega arith) a)
+last-below n m (kept.Whole place ∷ x ∷ xs) k a at = last-below n (m + 1) (x ∷ xs) k a.1 at
+last-below n m (kept.Again hop ticket like ∷ x ∷ xs) k a at = last-below n m (x ∷ xs) k a.1 at
 
 -- the last one, as it was found
 pub last-found : (xs : List Try) (x : Try) → Some x ≡ slice_get xs (length xs - 1) → last_or None xs ≡ Some x
 last-found [] x e = absurd cc
-last-found (y ∷ xs) x e = last-at (y ∷ xs) (length (y ∷ xs) - 1) x (omega arith) (sym e)
+last-found (y ∷ xs) x e = last_or-at (y ∷ xs) (length (y ∷ xs) - 1) x (omega arith) (sym e)
 
 -- one that is like another made no attempts
 told-attempts : (whole : List Try) (m : ℕ) (ks : List KeptTry) → AreFit (length whole) m ks → attempts_of (map tried_of (map (told whole) ks)) ≡ attempts_of (map tried_of (drop m whole))
@@ -179,3 +167,52 @@ told-attempts whole m (kept.Again hop ticket like ∷ ks) a =
 
 pub all-attempts : (whole : List Try) (ks : List KeptTry) → AreFit (length whole) 0 ks → attempts_of (map tried_of (map (told whole) ks)) ≡ attempts_of (map tried_of whole)
 all-attempts whole ks a = told-attempts whole 0 ks a
+
+-- a try that made no attempts adds none
+pub attempts-more : (tries : List Try) (t : Try) → t.count ≡ 0 → attempts_of (map tried_of (tries ++ t ∷ [])) ≡ attempts_of (map tried_of tries)
+attempts-more [] t e = sum_by-cons (λ (x : Tried). length x.statuses) (tried_of t) [] ∙ ap (λ n. length (take n t.statuses) + 0) e
+attempts-more (x ∷ xs) t e =
+    sum_by-cons (λ (y : Tried). length y.statuses) (tried_of x) (map tried_of (xs ++ t ∷ []))
+    ∙ ap (λ n. length (tried_of x).statuses + n) (attempts-more xs t e)
+    ∙ sym (sum_by-cons (λ (y : Tried). length y.statuses) (tried_of x) (map tried_of xs))
+
+last-some : (n : ℕ) (ns : List ℕ) → last_or None (n ∷ ns) ≡ None → ⊥
+last-some n [] e = none-some n (sym e)
+last-some n (m ∷ ns) e = last-some m ns e
+
+done-not : (o : Option ℕ) → done_with o ≡ Sent → o ≡ None
+done-not None s = refl
+done-not (Some status) s = absurd cc
+
+none-so : (e : TryEnd) (b : Option Back) (ss : List ℕ) → outcome_after e (record { end = e; statuses = ss; back = b }) ≡ Sent → length ss ≡ 0
+none-so (end.Sent slot version) None [] s = refl
+none-so (end.Sent slot version) None (n ∷ ns) s = absurd (last-some n ns (done-not (last_or None (n ∷ ns)) s))
+none-so (end.Sent slot version) (Some b) ss s = absurd cc
+none-so end.Listed b ss s = absurd cc
+none-so end.Failed b ss s = absurd cc
+
+-- a try that is on its way made none yet
+none-yet : (t : Try) → outcome_of (Some (tried_of t)) ≡ Sent → length (tried_of t).statuses ≡ 0
+none-yet t s = none-so t.end t.back (take t.count t.statuses) s
+
+-- the attempts of the last one, which is sent, are added
+pub attempts-ended : (statuses : List ℕ) (count : ℕ) (back : Option Back) (tries : List Try) → length statuses ≡ 6 → count ≤ 6 → outcome_of (last_or None (map tried_of tries)) ≡ Sent → attempts_of (map tried_of (ended_tries statuses count back tries)) ≡ attempts_of (map tried_of tries) + count
+attempts-ended statuses count back [] l h s = absurd cc
+attempts-ended statuses count back (t ∷ []) l h s =
+    omega (arith, sum_by-cons (λ (y : Tried). length y.statuses) (tried_of (ended_try statuses count back t)) [], sum_by-cons (λ (y : Tried). length y.statuses) (tried_of t) [], none-yet t s, length-take count statuses)
+attempts-ended statuses count back (t ∷ u ∷ ts) l h s =
+    omega (arith, sum_by-cons (λ (y : Tried). length y.statuses) (tried_of t) (map tried_of (ended_tries statuses count back (u ∷ ts))), sum_by-cons (λ (y : Tried). length y.statuses) (tried_of t) (map tried_of (u ∷ ts)), attempts-ended statuses count back (u ∷ ts) l h s)
+
+-- no try makes more than six
+pub attempts-few : (tries : List Try) → AllByRecursion IsShort tries → attempts_of (map tried_of tries) ≤ 6 * length tries
+attempts-few [] a = omega arith
+attempts-few (t ∷ ts) a = omega (arith, sum_by-cons (λ (y : Tried). length y.statuses) (tried_of t) (map tried_of ts), a.0, attempts-few ts a.1)
+
+pub short-more : (tries : List Try) (t : Try) → AllByRecursion IsShort tries → t.count ≡ 0 → AllByRecursion IsShort (tries ++ t ∷ [])
+short-more [] t a e = (omega (arith, e, length-take t.count t.statuses), tt)
+short-more (x ∷ xs) t a e = (a.0, short-more xs t a.1 e)
+
+pub short-ended : (statuses : List ℕ) (count : ℕ) (back : Option Back) (tries : List Try) → count ≤ 6 → AllByRecursion IsShort tries → AllByRecursion IsShort (ended_tries statuses count back tries)
+short-ended statuses count back [] h a = tt
+short-ended statuses count back (t ∷ []) h a = (omega (arith, h, length-take count statuses), tt)
+short-ended statuses count back (t ∷ u ∷ ts) h a = (a.0, short-ended statuses count back (u ∷ ts) h a.1)

@@ -10,6 +10,7 @@ pub mod Facts
 pub mod RequestView
 pub mod Like
 pub mod TriesView
+pub mod Keeps
 pub mod KeptTry
 pub mod Request
 pub mod Answers

@@ -7,6 +7,7 @@ pub mod effect;
 pub mod effect_laws;
 pub mod entry;
 pub mod flight;
+mod keeps;
 mod kept_try;
 mod later;
 pub mod laws;

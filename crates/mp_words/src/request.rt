@@ -27,18 +27,21 @@ pub enum SubmitError {
 pub struct Request {
     id: ReqId,
     node: Node,
+    attempts: u32,
     tries: Tries,
 }
 
 impl Model for Request {
-    ghost use Rattle.std.specs.Prelude.{◌≤◌, ◌+◌, length};
+    ghost use Rattle.std.specs.Prelude.{◌≡◌, ◌≤◌, ◌+◌, length, map};
+    ghost use Rattle.std.specs.List.{AllByRecursion};
+    ghost use Rattle.mp_words.specs.Request.{attempts_of, tried_of, IsShort};
     ghost use Rattle.mp_words.specs.RequestView.{RequestView};
 
     ghost Value = { RequestView };
 
     ghost view = { λ r. record { id = r.id; node = r.node; tries = r.tries.items; spare = r.tries.spare } };
 
-    ghost invariant = { λ r. length r.tries.items + r.tries.spare ≤ 67108864 };
+    ghost invariant = { λ r. (length r.tries.items + r.tries.spare ≤ 67108864) × (r.attempts ≡ attempts_of (map tried_of r.tries.items)) × AllByRecursion IsShort r.tries.items };
 }
 
 impl Request {
@@ -51,6 +54,7 @@ impl Request {
         Request {
             id,
             node,
+            attempts: 0,
             tries: Tries::make(alloc),
         }
     }
@@ -104,7 +108,7 @@ impl Request {
         ensures count { result ≡ attempts_of (asked_of self.now).tries }
         ensures most { result ≤ 402653184 }
     {
-        self.tries.attempts()
+        self.attempts
     }
 
     /// How the request stands: it waits without tries, after a listed try and after one that came back.
@@ -140,6 +144,7 @@ impl Request {
         ensures node { self.new.node ≡ self.old.node }
         ensures room { self.new.spare ≡ self.old.spare }
     {
+        self.attempts += u32::from(count);
         self.tries.end_last(statuses, count, back);
     }
 }

@@ -5,8 +5,10 @@ ghost use Rattle.std.specs.List.{last_or};
 ghost use Rattle.mp_words.specs.KeptTry.{told, as_again, IsAgain};
 ghost use Rattle.mp_words.specs.Like.{Tells};
 ghost use Rattle.mp_words.specs.Request.{outcome_of, attempts_of, tried_of, ended_tries, done_with};
+ghost use Rattle.mp_words.specs.declared.trying.TryEnd.TheVariants as end;
 
 use crate::entry::RowEntry;
+use crate::keeps::Keeps;
 use crate::kept_try::KeptTry;
 use crate::like::is_like;
 use crate::note::Note;
@@ -18,7 +20,7 @@ use crate::trying::{Back, Outcome, Try, TryEnd};
 use std::alloc::{AllocError, Global};
 use std::marker::Model;
 
-/// Below so many whole tries the room for one more is just that.
+/// Below so many whole tries the room for one more is just that: most requests are tried once.
 const FEW: usize = 4;
 
 /// The tries of a request, in order.
@@ -26,20 +28,20 @@ const FEW: usize = 4;
 /// A try that is listed, and is like the last whole one, is kept by its number and its ticket alone.
 #[derive(Drop)]
 pub struct Tries {
-    kept: Vec<KeptTry>,
+    kept: Keeps,
     whole: Vec<Try>,
 }
 
 impl Model for Tries {
-    ghost use Rattle.std.specs.Prelude.{◌≤◌, ◌-◌, map, min, vec_len, vec_capacity};
+    ghost use Rattle.std.specs.Prelude.{◌≤◌, ◌-◌, length, map, min, vec_len, vec_capacity};
     ghost use Rattle.mp_words.specs.KeptTry.{told, AreFit};
     ghost use Rattle.mp_words.specs.TriesView.{TriesView};
 
     ghost Value = { TriesView };
 
-    ghost view = { λ t. record { items = map (told t.whole.items) t.kept.items; spare = min (min (vec_capacity t.kept) 67108864 - vec_len t.kept) (vec_capacity t.whole - vec_len t.whole) } };
+    ghost view = { λ t. record { items = map (told t.whole.items) t.kept.items; spare = min (min t.kept.spare (67108864 - length t.kept.items)) (vec_capacity t.whole - vec_len t.whole) } };
 
-    ghost invariant = { λ t. AreFit (vec_len t.whole) 0 t.kept.items × (vec_len t.kept ≤ 67108864) };
+    ghost invariant = { λ t. AreFit (vec_len t.whole) 0 t.kept.items × (length t.kept.items ≤ 67108864) };
 }
 
 impl Tries {
@@ -49,7 +51,7 @@ impl Tries {
         ensures most { length result.items + result.spare ≤ 67108864 }
     {
         Tries {
-            kept: Vec::new(alloc),
+            kept: Keeps::make(alloc),
             whole: Vec::new(alloc),
         }
     }
@@ -67,8 +69,8 @@ impl Tries {
         ensures items { self.new.items ≡ self.old.items }
         ensures most { length self.new.items + self.new.spare ≤ 67108864 }
     {
-        room_for_kept(&mut self.kept)?;
-        room_for_whole(&mut self.whole)
+        self.kept.reserve()?;
+        reserve_one(&mut self.whole)
     }
 
     /// Adds a try at the end. It takes no memory.
@@ -85,11 +87,11 @@ impl Tries {
         let _: (Option<CState>, Option<Policy>, Option<Gift>) = (None, None, None);
         let _: Option<KeptTry> = None;
         match again_of(self.whole.as_slice(), &made) {
-            Some(kept) => self.kept.push_reserved(kept),
+            Some(kept) => self.kept.push(kept),
             None => {
                 let place = self.whole.len() as u32;
                 self.whole.push_reserved(made);
-                self.kept.push_reserved(KeptTry::Whole(place));
+                self.kept.push(KeptTry::Whole(place));
             }
         }
     }
@@ -116,7 +118,7 @@ impl Tries {
         requires { place < length self.now.items }
         ensures { slice_get self.now.items place ≡ Some result }
     {
-        match self.kept[place] {
+        match self.kept.at(place) {
             KeptTry::Whole(place) => self.whole[place as usize],
             KeptTry::Again { hop, ticket, like } => again(hop, ticket, &self.whole[like as usize]),
         }
@@ -139,7 +141,7 @@ impl Tries {
         requires { place < length self.now.items }
         ensures { IfSome (slice_get self.now.items place) (λ t. result ≡ t.end) }
     {
-        match self.kept[place] {
+        match self.kept.at(place) {
             KeptTry::Whole(place) => self.whole[place as usize].end,
             KeptTry::Again { .. } => TryEnd::Listed,
         }
@@ -150,9 +152,21 @@ impl Tries {
         requires { place < length self.now.items }
         ensures { IfSome (slice_get self.now.items place) (λ t. result ≡ t.count) }
     {
-        match self.kept[place] {
+        match self.kept.at(place) {
             KeptTry::Whole(place) => self.whole[place as usize].count,
             KeptTry::Again { .. } => 0,
+        }
+    }
+
+    /// The last try, where it is kept whole: only a listed one isn't. It costs less than the try.
+    pub fn last_whole(&self) -> Option<&Try>
+        ensures last { IfSome result (λ t. last_or None self.now.items ≡ Some t.now) }
+        ensures listed { result ≡ None → IfSome (last_or None self.now.items) (λ t. t.end ≡ end.Listed) }
+    {
+        match self.kept.last() {
+            Some(KeptTry::Whole(place)) => Some(&self.whole[place as usize]),
+            Some(KeptTry::Again { .. }) => None,
+            None => None,
         }
     }
 
@@ -172,29 +186,13 @@ impl Tries {
         match self.kept.last() {
             None => Outcome::Waiting,
             Some(KeptTry::Again { .. }) => Outcome::Waiting,
-            Some(KeptTry::Whole(place)) => outcome_after(&self.whole[*place as usize]),
+            Some(KeptTry::Whole(place)) => outcome_after(&self.whole[place as usize]),
         }
     }
 }
 
-/// Makes room for one more: most requests are tried once, so the first gets just its room.
-fn room_for_kept(kept: &mut Vec<KeptTry>) -> Result<(), AllocError>
-    ensures items { kept.new.items ≡ kept.old.items }
-    ensures len { vec_len kept.new ≡ vec_len kept.old }
-    ensures room { OnOk result (vec_len kept.new + 1 ≤ vec_capacity kept.new) }
-    ensures kept { vec_capacity kept.old ≤ vec_capacity kept.new }
-    ensures cause { OnErr result (vec_capacity kept.old < vec_len kept.old + 1) }
-    ensures exact { vec_len kept.old ≡ 0 → OnOk result (vec_capacity kept.new ≡ max (vec_capacity kept.old) 1) }
-{
-    if kept.is_empty() {
-        kept.reserve_exact(1)
-    } else {
-        kept.reserve(1)
-    }
-}
-
 /// Makes room for one more: the first few get just their room.
-fn room_for_whole(whole: &mut Vec<Try>) -> Result<(), AllocError>
+fn reserve_one(whole: &mut Vec<Try>) -> Result<(), AllocError>
     ensures items { whole.new.items ≡ whole.old.items }
     ensures len { vec_len whole.new ≡ vec_len whole.old }
     ensures room { OnOk result (vec_len whole.new + 1 ≤ vec_capacity whole.new) }
