@@ -15,7 +15,7 @@ use crate::halt::Halt;
 use mp_change::change::{ChangeEnd, Changing, change};
 use mp_core::gate::Gate;
 use mp_core::steps::Steps;
-use mp_record::event::{Event, Said};
+use mp_record::event::Said;
 use mp_words::note::Note;
 use mp_words::numbers::Ctrl;
 use mp_words::op::{Maker, Op};
@@ -67,12 +67,12 @@ impl Desk {
     {
         if let ChangeEnd::Moved(slot, row) = end {
             let moved = Some((*slot, row.version));
-            self.notes.push(Event::Sec { note, moved });
+            self.notes.push_section(&note, &moved);
             return false;
         }
-        self.notes.push(Event::Sec { note, moved: None });
+        self.notes.push_section(&note, &None);
         let said = said_of(end);
-        self.notes.push(Event::At { line, said });
+        self.notes.push_said(line, said);
         if let ChangeEnd::Changed(entry) = end {
             self.rows.push(*entry);
         }

@@ -9,7 +9,7 @@ use crate::flights::Flights;
 use crate::full::Full;
 use crate::made::Made;
 use crate::roomy::Roomy;
-use mp_record::event::{Event, Said};
+use mp_record::event::Said;
 use mp_record::notes::LaneNotes;
 use mp_words::request::Request;
 use std::alloc::Global;
@@ -65,7 +65,7 @@ impl Desk {
         ensures kept { OnErr result (desk_of self.new ≡ desk_of self.old) }
     {
         self.notes.reserve(1).map_err(|_| Full::NoMemory)?;
-        self.notes.push(Event::At { line, said });
+        self.notes.push_said(line, said);
         Ok(())
     }
 }

@@ -1,9 +1,10 @@
 //! The finish of flights at a desk.
 
-ghost use Rattle.std.specs.Prelude.{◌≡◌, ◌≤◌, ◌+◌, ◌++◌, ℕ, None, Some, map};
+ghost use Rattle.std.specs.Prelude.{◌≡◌, ◌≤◌, ◌+◌, ◌++◌, ◌∷◌, ℕ, [], None, Some, map};
 ghost use Rattle.std.specs.List.{last_or};
 ghost use Rattle.mp_words.specs.declared.near.Near.{Near};
 ghost use Rattle.mp_words.specs.declared.trying.Try.{Try};
+ghost use Rattle.mp_record.specs.declared.event.Event.TheVariants as event;
 ghost use Rattle.mp_desk.specs.Calls.{finish, Sits};
 ghost use Rattle.mp_desk.specs.DeskView.{entering, landing, noting, unended};
 ghost use Rattle.mp_desk.specs.Desks.{desk_of, BreaksCalls, BreaksFlight, DoesCalls, DoesFlight, HasRoom, IsTaken, KeepsStand, Leaves};
@@ -17,7 +18,6 @@ use crate::halt::Halt;
 use crate::last::last_of;
 use mp_core::gate::Gate;
 use mp_core::steps::Steps;
-use mp_record::event::Event;
 use mp_record::notes::LaneNotes;
 use mp_submit::finish::{Finished, finish};
 use mp_words::answers::Answers;
@@ -25,7 +25,7 @@ use mp_words::note::Note;
 use mp_words::numbered::Numbered;
 use mp_words::numbers::ReqId;
 use mp_words::request::Request;
-use mp_words::trying::Back;
+use mp_words::trying::{Back, Try};
 
 impl Desk {
     /// Ends the flights of a number, where one is named, or all, in the order sent, by the scripted statuses of their
@@ -95,7 +95,7 @@ impl Desk {
                 }
                 Finished::Moved(again, row, note) => {
                     let moved = Some((Aloft::of(again).slot, row.version));
-                    self.notes.push(Event::Sec { note, moved });
+                    self.notes.push_section(&note, &moved);
                 }
             }
         }
@@ -139,10 +139,7 @@ fn note_section(notes: &mut LaneNotes, entered: &Option<Note>)
     ensures room { 1 ≤ notes.new.spare }
 {
     if let Some(note) = entered {
-        notes.push(Event::Sec {
-            note: *note,
-            moved: None,
-        });
+        notes.push_section(note, &None);
     }
 }
 
@@ -153,14 +150,19 @@ fn note_end(notes: &mut LaneNotes, request: &Request) -> Option<Back>
     ensures events { notes.new.events ≡ notes.old.events ++ end_event request.now (last_or None request.now.tries) }
     ensures back { result ≡ back_in (last_or None request.now.tries) }
 {
-    let last = last_of(request);
-    let statuses = last.statuses;
-    notes.push(Event::Fin {
-        req: request.id(),
-        hop: request.next() - 1,
-        statuses,
-        count: last.count,
-        back: last.back,
-    });
+    let (req, hop) = (request.id(), request.next() - 1);
+    match request.tries().last_whole() {
+        Some(last) => note_last(notes, req, hop, last),
+        None => note_last(notes, req, hop, &last_of(request)),
+    }
+}
+
+/// Notes how a try ended, and answers how its request came back, where it did.
+fn note_last(notes: &mut LaneNotes, req: ReqId, hop: u32, last: &Try) -> Option<Back>
+    requires { 1 ≤ notes.old.spare }
+    ensures events { notes.new.events ≡ notes.old.events ++ event.Fin req hop last.now.statuses last.now.count last.now.back ∷ [] }
+    ensures back { result ≡ last.now.back }
+{
+    notes.push_end(req, hop, &last.statuses, last.count, &last.back);
     last.back
 }

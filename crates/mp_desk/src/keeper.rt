@@ -23,7 +23,7 @@ use mp_keep::keeper::Keeper;
 use mp_keep::reaped::Reaped;
 use mp_keep::remove_error::RemoveError;
 use mp_keep::stop::Stop;
-use mp_record::event::{Event, Said};
+use mp_record::event::Said;
 use mp_words::entry::RowEntry;
 use mp_words::numbers::Ctrl;
 use mp_words::op::{Gift, Maker};
@@ -135,7 +135,7 @@ impl Desk {
         };
         let entry = keeper.set_policy(steps, policy, by);
         let said = Said::Policy(entry.order.version);
-        self.notes.push(Event::At { line, said });
+        self.notes.push_said(line, said);
         Ok(())
     }
 
@@ -190,7 +190,7 @@ impl Desk {
         ensures { desk_of self.new ≡ entering (entry_added answer.now) (noting (event.At line (added_said answer.now) ∷ []) (desk_of self.old)) }
     {
         let said = added_said(answer);
-        self.notes.push(Event::At { line, said });
+        self.notes.push_said(line, said);
         if let Ok(added) = answer {
             self.rows.push(added.row);
         }
@@ -205,13 +205,13 @@ impl Desk {
         match answer {
             Ok(entry) => {
                 let said = Said::Marked(entry.slot, entry.row.version);
-                self.notes.push(Event::At { line, said });
+                self.notes.push_said(line, said);
                 self.rows.push(*entry);
                 true
             }
             Err(RemoveError::NoPath(order)) => {
                 let said = Said::NoPath(order.version);
-                self.notes.push(Event::At { line, said });
+                self.notes.push_said(line, said);
                 true
             }
             Err(RemoveError::Moved(_)) => false,
@@ -224,7 +224,7 @@ impl Desk {
         ensures { desk_of self.new ≡ entering (walk.entries_of answer.now) (noting (event.At line (reaped_said answer.now) ∷ []) (desk_of self.old)) }
     {
         let said = reaped_said(answer);
-        self.notes.push(Event::At { line, said });
+        self.notes.push_said(line, said);
         if let Reaped::Freed(entry, _) = answer {
             self.rows.push(*entry);
         }

@@ -8,6 +8,7 @@ ghost use Rattle.mp_desk.specs.Calls.{submit, IsWaiting, Sits};
 ghost use Rattle.mp_desk.specs.Desks.{desk_of, placed, BreaksCall, BreaksCalls, DoesCall, DoesCalls, KeepsStand, Leaves};
 ghost use Rattle.mp_desk.specs.DeskView.{unended};
 ghost use Rattle.mp_desk.specs.Says.{section, try_event};
+ghost use Rattle.mp_record.specs.declared.event.Event.TheVariants as event;
 
 use crate::aloft::Aloft;
 use crate::desk::Desk;
@@ -17,12 +18,13 @@ use crate::last::last_of;
 use crate::pay::can_pay;
 use mp_core::gate::Gate;
 use mp_core::steps::Steps;
-use mp_record::event::Event;
 use mp_record::notes::LaneNotes;
 use mp_submit::submit::{Submitted, submit};
 use mp_words::near::Near;
 use mp_words::numbered::Numbered;
+use mp_words::numbers::ReqId;
 use mp_words::request::Request;
+use mp_words::trying::Try;
 
 impl Desk {
     /// Makes a try of a request that waits, and notes it: the request is on its way, to be listed, or has failed. It needs
@@ -112,14 +114,18 @@ fn note_try(notes: &mut LaneNotes, request: &Request)
     requires tried { (made : Try) × (last_or None request.now.tries ≡ Some made) }
     ensures { (made : Try) → last_or None request.now.tries ≡ Some made → notes.new.events ≡ notes.old.events ++ section made.note ∷ try_event request.now made ∷ [] }
 {
-    let made = last_of(request);
-    notes.push(Event::Sec {
-        note: made.note,
-        moved: None,
-    });
-    notes.push(Event::Try {
-        req: request.id(),
-        hop: made.hop,
-        end: made.end,
-    });
+    let req = request.id();
+    match request.tries().last_whole() {
+        Some(made) => note_made(notes, req, made),
+        None => note_made(notes, req, &last_of(request)),
+    }
+}
+
+/// Notes a try of a request, with its section.
+fn note_made(notes: &mut LaneNotes, req: ReqId, made: &Try)
+    requires { 2 ≤ notes.old.spare }
+    ensures { notes.new.events ≡ notes.old.events ++ section made.now.note ∷ event.Try req made.now.hop made.now.end ∷ [] }
+{
+    notes.push_section(&made.note, &None);
+    notes.push_try(req, made.hop, made.end);
 }

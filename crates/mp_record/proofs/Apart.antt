@@ -64,3 +64,24 @@ told-at events apart ks i k is h at =
 
 pub same-at : (xs : List Event) (i : ℕ) (d x : Event) → i < length xs → x ≡ get_or xs i x → get_or xs i d ≡ x
 same-at xs i d x h at = get_or_from_slice_get xs i x d (slice_get-get_or xs i x h ∙ ap Some (sym at))
+
+-- one that has no place tells the same beside any
+pub below-any : (n : ℕ) (k : Kept) → IsBelow 0 k → IsBelow n k
+below-any n (kept.Apart place) h = absurd (omega arith)
+below-any n (kept.Section like ticket) h = absurd (omega arith)
+below-any n (kept.At line said) h = tt
+below-any n (kept.Try req hop end) h = tt
+below-any n (kept.Done req hop statuses count) h = tt
+below-any n (kept.Unset req hop statuses count) h = tt
+
+told-any : (apart : List Event) (k : Kept) → IsBelow 0 k → told apart k ≡ told [] k
+told-any apart (kept.Apart place) h = absurd (omega arith)
+told-any apart (kept.Section like ticket) h = absurd (omega arith)
+told-any apart (kept.At line said) h = refl
+told-any apart (kept.Try req hop end) h = refl
+told-any apart (kept.Done req hop statuses count) h = refl
+told-any apart (kept.Unset req hop statuses count) h = refl
+
+-- one more event that has no place
+pub told-small : (apart : List Event) (k : Kept) (ks : List Kept) → IsBelow 0 k → map (told apart) (ks ++ k ∷ []) ≡ map (told apart) ks ++ told [] k ∷ []
+told-small apart k ks h = map-append (told apart) ks (k ∷ []) ∙ ap (λ e. map (told apart) ks ++ e ∷ []) (told-any apart k h)

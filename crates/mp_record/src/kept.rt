@@ -9,7 +9,7 @@ use crate::event::{Event, Said};
 use mp_words::like::is_like;
 use mp_words::note::Note;
 use mp_words::numbers::{ReqId, Slot};
-use mp_words::trying::{Back, TryEnd};
+use mp_words::trying::TryEnd;
 
 /// An event in few bytes, or the place of one that stands apart, whole.
 ///
@@ -62,52 +62,12 @@ pub(crate) fn retold(event: &Event, ticket: u32) -> Event
     }
 }
 
-/// The event as it is kept in place, where it is small, or a section that is like the last that stands apart.
-pub(crate) fn kept_of(event: &Event, apart: &[Event]) -> Option<Kept>
-    ensures told { IfSome result (λ k. told apart.now k ≡ event.now) }
-    ensures below { IfSome result (λ k. IsBelow (length apart.now) k) }
-{
-    match event {
-        Event::Sec { note, moved } => kept_section(note, moved, apart),
-        Event::At { line, said } => Some(Kept::At {
-            line: *line,
-            said: *said,
-        }),
-        Event::Try { req, hop, end } => Some(Kept::Try {
-            req: *req,
-            hop: *hop,
-            end: *end,
-        }),
-        Event::Fin {
-            req,
-            hop,
-            statuses,
-            count,
-            back: None,
-        } => Some(Kept::Done {
-            req: *req,
-            hop: *hop,
-            statuses: *statuses,
-            count: *count,
-        }),
-        Event::Fin {
-            req,
-            hop,
-            statuses,
-            count,
-            back: Some(Back::Unset),
-        } => Some(Kept::Unset {
-            req: *req,
-            hop: *hop,
-            statuses: *statuses,
-            count: *count,
-        }),
-        _ => None,
-    }
-}
-
 /// A section as it is kept in place, where the last event that stands apart is a section that is like it.
-fn kept_section(note: &Note, moved: &Option<(Slot, u32)>, apart: &[Event]) -> Option<Kept>
+pub(crate) fn kept_section(
+    note: &Note,
+    moved: &Option<(Slot, u32)>,
+    apart: &[Event],
+) -> Option<Kept>
     ensures told { IfSome result (λ k. told apart.now k ≡ an.Sec note.now moved.now) }
     ensures below { IfSome result (λ k. IsBelow (length apart.now) k) }
 {

@@ -3,9 +3,11 @@
 ghost use Rattle.std.specs.Prelude.{ℕ, ◌≡◌, ◌≤◌, ◌<◌, ◌+◌, List, ◌++◌, ◌∷◌, [], Some, IfOk, IfSome, OnOk, OnErr, filter, length, string_bytes, slice_get, vec_len, vec_capacity};
 ghost use Rattle.mp_record.specs.RunView.{is_plain};
 ghost use Rattle.mp_record.specs.NotedText.{noted_events};
+ghost use Rattle.mp_record.specs.Kept.{told, IsBelow};
+ghost use Rattle.mp_record.specs.declared.event.Event.TheVariants as event;
 
 use crate::event::{Event, Said};
-use crate::kept::{Kept, kept_of, retold};
+use crate::kept::{Kept, kept_section, retold};
 use crate::kept_text::put_each;
 use crate::plain::plain_of;
 use mp_words::entry::RowEntry;
@@ -92,6 +94,118 @@ impl LaneNotes {
         ensures events { self.new.events ≡ self.old.events ++ event ∷ [] }
         ensures spare { self.new.spare + 1 ≡ self.old.spare }
     {
+        match &event {
+            Event::Sec { note, moved } => self.push_section(note, moved),
+            Event::At { line, said } => self.push_said(*line, *said),
+            Event::Try { req, hop, end } => self.push_try(*req, *hop, *end),
+            Event::Fin {
+                req,
+                hop,
+                statuses,
+                count,
+                back,
+            } => self.push_end(*req, *hop, statuses, *count, back),
+        }
+    }
+
+    /// Adds what a line of the script, or a round of the drain, says of itself. It takes no memory.
+    pub fn push_said(&mut self, line: u32, said: Said)
+        requires { 1 ≤ self.old.spare }
+        ensures events { self.new.events ≡ self.old.events ++ event.At line said ∷ [] }
+        ensures spare { self.new.spare + 1 ≡ self.old.spare }
+    {
+        self.push_small(Kept::At { line, said });
+    }
+
+    /// Adds a try of a request. It takes no memory.
+    pub fn push_try(&mut self, req: ReqId, hop: u32, end: TryEnd)
+        requires { 1 ≤ self.old.spare }
+        ensures events { self.new.events ≡ self.old.events ++ event.Try req hop end ∷ [] }
+        ensures spare { self.new.spare + 1 ≡ self.old.spare }
+    {
+        self.push_small(Kept::Try { req, hop, end });
+    }
+
+    /// Adds the end of a try's flight: the first `count` of these statuses, and how the request came back, where it
+    /// did. It takes no memory.
+    pub fn push_end(
+        &mut self,
+        req: ReqId,
+        hop: u32,
+        statuses: &[u16; 6],
+        count: u8,
+        back: &Option<Back>,
+    )
+        requires { 1 ≤ self.old.spare }
+        ensures events { self.new.events ≡ self.old.events ++ event.Fin req hop statuses.now count back.now ∷ [] }
+        ensures spare { self.new.spare + 1 ≡ self.old.spare }
+    {
+        let statuses = *statuses;
+        match back {
+            None => self.push_small(Kept::Done {
+                req,
+                hop,
+                statuses,
+                count,
+            }),
+            Some(Back::Unset) => self.push_small(Kept::Unset {
+                req,
+                hop,
+                statuses,
+                count,
+            }),
+            Some(Back::Set(_)) => self.push_apart(Event::Fin {
+                req,
+                hop,
+                statuses,
+                count,
+                back: *back,
+            }),
+        }
+    }
+
+    /// Adds a section, with the other version of a row that it met, if it did. It takes no memory.
+    pub fn push_section(&mut self, note: &Note, moved: &Option<(Slot, u32)>)
+        requires { 1 ≤ self.old.spare }
+        ensures events { self.new.events ≡ self.old.events ++ event.Sec note.now moved.now ∷ [] }
+        ensures spare { self.new.spare + 1 ≡ self.old.spare }
+    {
+        // The proof of a push needs each type inside what is kept named here.
+        let _: (Option<ReqId>, Option<Kept>, Option<[u16; 6]>) = (None, None, None);
+        let _: (Option<TryEnd>, Option<Said>) = (None, None);
+        match kept_section(note, moved, self.apart.as_slice()) {
+            Some(like) => {
+                self.room -= 1;
+                self.kept.push_reserved(like);
+            }
+            None => self.push_apart(Event::Sec {
+                note: *note,
+                moved: *moved,
+            }),
+        }
+    }
+
+    /// Keeps an event in place. One that is small has no place among those that stand apart.
+    fn push_small(&mut self, kept: Kept)
+        requires room { 1 ≤ self.old.spare }
+        requires small { IsBelow 0 kept }
+        ensures events { self.new.events ≡ self.old.events ++ told [] kept ∷ [] }
+        ensures spare { self.new.spare + 1 ≡ self.old.spare }
+    {
+        // The proof of a push needs each type inside what is kept named here.
+        let _: (Option<ReqId>, Option<Kept>, Option<[u16; 6]>) = (None, None, None);
+        let _: (Option<TryEnd>, Option<Said>) = (None, None);
+        let _: Option<Slot> = None;
+        self.room -= 1;
+        self.kept.push_reserved(kept);
+    }
+
+    /// Keeps an event apart, whole.
+    fn push_apart(&mut self, event: Event)
+        requires { 1 ≤ self.old.spare }
+        ensures events { self.new.events ≡ self.old.events ++ event ∷ [] }
+        ensures spare { self.new.spare + 1 ≡ self.old.spare }
+    {
         // The proof of a push needs each type inside an event named here.
         let _: (Option<ReqId>, Option<Kept>, Option<[u16; 6]>) = (None, None, None);
         let _: Option<TryEnd> = None;
@@ -106,14 +220,9 @@ impl LaneNotes {
         let _: Option<Note> = None;
         let _: Option<RowEntry> = None;
         self.room -= 1;
-        match kept_of(&event, self.apart.as_slice()) {
-            Some(kept) => self.kept.push_reserved(kept),
-            None => {
-                let place = self.apart.len();
-                self.apart.push_reserved(event);
-                self.kept.push_reserved(Kept::Apart(place));
-            }
-        }
+        let place = self.apart.len();
+        self.apart.push_reserved(event);
+        self.kept.push_reserved(Kept::Apart(place));
     }
 
     /// The number of events.

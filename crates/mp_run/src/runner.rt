@@ -43,6 +43,9 @@ pub fn put_all(list: &mut Private<Request>, requests: Vec<Request>) -> Result<()
     ensures put { OnOk result (list.new ≡ list.old ++ requests.items) }
     ensures refused { IfErr result (λ why. why ≡ RunError.NoMemory) }
 {
+    if requests.is_empty() {
+        return Ok(());
+    }
     for request in requests {
         if list.put(request).is_err() {
             return Err(RunError::NoMemory);

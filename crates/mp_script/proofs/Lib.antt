@@ -1,4 +1,6 @@
 pub mod Pieces
+pub mod Counted
+pub mod Plain
 pub mod Entries
 pub mod Ordered
 pub mod Lanes

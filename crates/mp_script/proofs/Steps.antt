@@ -128,26 +128,27 @@ same_checks : (t : Topology) (pages : ℕ) (ms ns : List ℕ) (b : Before) (n : 
 unfolding shape_checks
 same_checks t pages ms ns b n s same = rw (submitted_same ms ns s same) refl
 
-pub at_stops : (t : Topology) (pages : ℕ) (bytes rest line after submits : List ℕ) (r : Progress) (fault : ScriptError) → IsAt t pages bytes rest r → lines_of rest ≡ line ∷ lines_of after
+pub at_stops : (t : Topology) (pages : ℕ) (bytes rest line after submits : List ℕ) (r : Progress) (fault : ScriptError) (s : Shape) → IsAt t pages bytes rest r → lines_of rest ≡ line ∷ lines_of after → s ≡ shape_of line
     → HaveSame submits (submitted_in t.near.nodes (lines_of bytes))
-    → ((b : Before) → IsEarlier r.earlier b → first_fault (shape_checks t pages submits b (r.number + 1) (shape_of line)) ≡ Some fault)
+    → ((b : Before) → IsEarlier r.earlier b → first_fault (shape_checks t pages submits b (r.number + 1) s) ≡ Some fault)
     → first_fault (each_from (line_checks t pages (lines_of bytes)) 0 (lines_of bytes)) ≡ Some fault
-at_stops t pages bytes rest line after submits r fault at cut same refused =
+at_stops t pages bytes rest line after submits r fault s at cut is same refused =
     let parts = lines_parts at.done line rest after bytes cut at.parts in
+    let fails : first_fault (shape_checks t pages submits (before at.done) (r.number + 1) (shape_of line)) ≡ Some fault = rw is at (refused (before at.done) at.known) in
     let here : first_fault (line_checks t pages (lines_of bytes) (length at.done) line) ≡ Some fault =
-    rw (checks_here t pages at.done line (lines_of after) (lines_of bytes) parts, ← at.number) (ap first_fault (sym (same_checks t pages submits (submitted_in t.near.nodes (lines_of bytes)) (before at.done) (r.number + 1) (shape_of line) same)) ∙ refused (before at.done) at.known) in
+    rw (checks_here t pages at.done line (lines_of after) (lines_of bytes) parts, ← at.number) (ap first_fault (sym (same_checks t pages submits (submitted_in t.near.nodes (lines_of bytes)) (before at.done) (r.number + 1) (shape_of line) same)) ∙ fails) in
     stops_here (line_checks t pages (lines_of bytes)) at.done line (lines_of after) (lines_of bytes) fault parts at.pass here
 
-pub at_more : (t : Topology) (pages : ℕ) (bytes rest line after : List ℕ) (o : Option (List ℕ)) (r next : Progress) → IsAt t pages bytes rest r → lines_of rest ≡ line ∷ lines_of after
+pub at_more : (t : Topology) (pages : ℕ) (bytes rest line after : List ℕ) (o : Option (List ℕ)) (r next : Progress) (s : Shape) → IsAt t pages bytes rest r → lines_of rest ≡ line ∷ lines_of after → s ≡ shape_of line
     → IfSome o (λ all. HaveSame all (submitted_in t.near.nodes (lines_of bytes)))
-    → ((b : Before) → IsEarlier r.earlier b → first_fault (shape_checks t pages (unwrap_or o r.earlier.submitted) b (r.number + 1) (shape_of line)) ≡ None)
-    → ((b : Before) → IsEarlier r.earlier b → IsEarlier next.earlier (noted b (shape_of line)))
-    → next.building ≡ put t.controllers r.building (r.number + 1) (shape_of line) → next.number ≡ r.number + 1 → IsAt t pages bytes after next
-at_more t pages bytes rest line after o r next at cut all passed known building number =
+    → ((b : Before) → IsEarlier r.earlier b → first_fault (shape_checks t pages (unwrap_or o r.earlier.submitted) b (r.number + 1) s) ≡ None)
+    → ((b : Before) → IsEarlier r.earlier b → IsEarlier next.earlier (noted b s))
+    → next.building ≡ put t.controllers r.building (r.number + 1) s → next.number ≡ r.number + 1 → IsAt t pages bytes after next
+at_more t pages bytes rest line after o r next s at cut is all passed known building number =
     let full = submitted_in t.near.nodes (lines_of bytes) in
     let submits = unwrap_or o r.earlier.submitted in
     let among = known_among o r.earlier.submitted full all (earlier_among t.near.nodes bytes rest at.done r.earlier at.parts at.own at.known) in
-    let pass = passed (before at.done) at.known in
+    let pass : first_fault (shape_checks t pages submits (before at.done) (r.number + 1) (shape_of line)) ≡ None = rw is at (passed (before at.done) at.known) in
     let parts = lines_parts at.done line rest after bytes cut at.parts in
     let here : first_fault (line_checks t pages (lines_of bytes) (length at.done) line) ≡ None =
     rw (checks_here t pages at.done line (lines_of after) (lines_of bytes) parts, ← at.number) (passes_among t pages submits full (before at.done) (r.number + 1) (shape_of line) among pass) in
@@ -156,8 +157,8 @@ at_more t pages bytes rest line after o r next at cut all passed known building 
       parts = parts_more at.done line rest after bytes cut at.parts;
       number = omega (arith, number, at.number, length-append at.done (line ∷ []));
       pass = goes_on_here (line_checks t pages (lines_of bytes)) at.done line at.pass here;
-      known = rw (before_append at.done line) (known (before at.done) at.known);
-      lanes = rw (building, number) (lanes_step t.controllers r.building (r.number + 1) line (lines_of after) ∙ ap (lanes_from t.controllers r.building (r.number + 1)) (sym cut) ∙ at.lanes);
+      known = rw (before_append at.done line, ← is) (known (before at.done) at.known);
+      lanes = rw (building, number, is) (lanes_step t.controllers r.building (r.number + 1) line (lines_of after) ∙ ap (lanes_from t.controllers r.building (r.number + 1)) (sym cut) ∙ at.lanes);
       own = own_more t pages submits at.done (r.number + 1) line at.own pass;
     }
 

@@ -2,6 +2,7 @@
 pub mod Splitting
 pub mod Shape
 pub mod Wording
+pub mod Numbers
 pub mod Places
 pub mod Before
 pub mod Requests

@@ -35,6 +35,22 @@ words_of (b ∷ bs) =
     else if goes_on bs then with_front b (words_of bs)
     else (b ∷ []) ∷ words_of bs
 
+-- ---- the first line of a text
+
+-- the bytes before the first line feed
+abbrev pub first_line : List ℕ → List ℕ
+first_line [] = []
+first_line (b ∷ bs) = if b == 10 then [] else b ∷ first_line bs
+
+-- the bytes behind the first line feed
+abbrev pub behind_line : List ℕ → List ℕ
+behind_line [] = []
+behind_line (b ∷ bs) = if b == 10 then bs else behind_line bs
+
+-- a blank or a line feed, which a word ends at
+abbrev pub is_end : ℕ → Bool
+is_end b = is_blank b || b == 10
+
 -- ---- numbers
 
 -- the number that a word is, or 0

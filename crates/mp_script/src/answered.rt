@@ -1,6 +1,6 @@
 //! The answers of a text so far.
 
-ghost use Rattle.std.specs.Prelude.{◌≡◌, ◌<◌, [], IfOk, false, ℕ, List, map};
+ghost use Rattle.std.specs.Prelude.{◌≡◌, ◌<◌, [], IfOk, OnOk, false, ℕ, List, map};
 ghost use Rattle.std.specs.List.{list_any};
 ghost use Rattle.mp_words.specs.Answers.{is_of, put_answer, IsAnswer};
 ghost use Rattle.mp_script.specs.Answered.{answers_in};
@@ -45,15 +45,17 @@ impl Answered {
         self.found.contains_key(&(req, attempt))
     }
 
-    /// The answers, and one more, of an attempt that has none.
-    pub(crate) fn put(self, answer: Answer) -> Result<Answered, AllocError>
+    /// Puts an answer to the others, of an attempt that has none.
+    pub(crate) fn put(&mut self, answer: Answer) -> Result<(), AllocError>
         requires answer { IsAnswer answer }
-        requires apart { list_any (is_of answer.req answer.attempt) self ≡ false }
-        ensures { IfOk result (λ a. a ≡ put_answer answer self) }
+        requires apart { list_any (is_of answer.req answer.attempt) self.old ≡ false }
+        ensures { OnOk result (self.new ≡ put_answer answer self.old) }
     {
-        let Answered { mut found } = self;
-        match found.insert((answer.req.get(), answer.attempt), answer) {
-            Ok(_) => Ok(Answered { found }),
+        match self
+            .found
+            .insert((answer.req.get(), answer.attempt), answer)
+        {
+            Ok(_) => Ok(()),
             Err(_) => Err(AllocError),
         }
     }

@@ -4,9 +4,11 @@
 mod answered;
 mod building;
 mod checking;
+mod cut;
 mod earlier;
 pub mod errors;
 pub mod laws;
+mod numbers;
 pub mod pages;
 mod places;
 mod progress;

@@ -6,7 +6,8 @@ ghost use Rattle.mp_checks.specs.Checks.{first_fault, each_from};
 ghost use Rattle.mp_checks.specs.Marks.{HaveSame};
 ghost use Rattle.mp_words.specs.Answers.{in_order};
 ghost use Rattle.mp_script.specs.Splitting.{lines_of};
-ghost use Rattle.mp_script.specs.Shape.{shape_of};
+ghost use Rattle.mp_script.specs.Shape.{shape};
+ghost use Rattle.mp_script.specs.Numbers.{AreNumbers};
 ghost use Rattle.mp_script.specs.Before.{Before, each_of, answer_of, submitted_in};
 ghost use Rattle.mp_script.specs.Lines.{shape_checks, line_checks};
 ghost use Rattle.mp_script.specs.Plans.{plans};
@@ -15,12 +16,13 @@ ghost use Rattle.mp_script.specs.Script.{script_of};
 
 use crate::building::{Building, push_plan, put};
 use crate::checking::check_line;
-use crate::earlier::{Earlier, noted, nothing};
+use crate::cut::Cut;
+use crate::earlier::{Earlier, note, nothing};
 use crate::errors::ScriptError;
 use crate::script::Script;
 use crate::setting::Setting;
-use crate::shapes::shape_of;
-use crate::splitting::split_line;
+use crate::shapes::take_line;
+use crate::wording::ctrl_of;
 use sqlite_items::Items;
 use std::alloc::{AllocError, Global};
 
@@ -32,38 +34,41 @@ pub(crate) struct Progress {
     pub(crate) building: Building,
 }
 
-/// What was read with one line more.
+/// Reads one line more.
 fn read_line<'a>(
     alloc: Global,
     setting: &Setting<'a>,
-    progress: Progress,
-    line: &'a [u8],
-) -> Result<Progress, ScriptError>
-    requires number { progress.number ≤ 65536 }
-    requires lanes { progress.earlier.lanes ≤ 16 }
-    ensures refused { (b : Before) → IsEarlier progress.earlier b → IfErr result (λ e. (e ≡ ScriptError.NoMemory → ⊥) → first_fault (shape_checks setting.now.topology.now setting.now.pages (unwrap_or setting.now.submits progress.earlier.submitted) b (progress.number + 1) (shape_of line.now)) ≡ Some e) }
-    ensures passed { (b : Before) → IsEarlier progress.earlier b → OnOk result (first_fault (shape_checks setting.now.topology.now setting.now.pages (unwrap_or setting.now.submits progress.earlier.submitted) b (progress.number + 1) (shape_of line.now)) ≡ None) }
-    ensures known { (b : Before) → IsEarlier progress.earlier b → IfOk result (λ p. IsEarlier p.earlier (noted b (shape_of line.now))) }
-    ensures building { IfOk result (λ p. p.building ≡ put setting.now.topology.now.controllers progress.building (progress.number + 1) (shape_of line.now)) }
-    ensures number { IfOk result (λ p. p.number ≡ progress.number + 1) }
-    ensures few { IfOk result (λ p. p.number ≤ 65536) }
-    ensures lanes { IfOk result (λ p. p.earlier.lanes ≤ 16) }
+    progress: &mut Progress,
+    cut: &Cut<'a>,
+) -> Result<(), ScriptError>
+    requires given { AreNumbers cut.now.numbers (shape cut.now.line) }
+    requires number { progress.old.number ≤ 65536 }
+    requires lanes { progress.old.earlier.lanes ≤ 16 }
+    ensures refused { (b : Before) → IsEarlier progress.old.earlier b → IfErr result (λ e. (e ≡ ScriptError.NoMemory → ⊥) → first_fault (shape_checks setting.now.topology.now setting.now.pages (unwrap_or setting.now.submits progress.old.earlier.submitted) b (progress.old.number + 1) (shape cut.now.line)) ≡ Some e) }
+    ensures passed { (b : Before) → IsEarlier progress.old.earlier b → OnOk result (first_fault (shape_checks setting.now.topology.now setting.now.pages (unwrap_or setting.now.submits progress.old.earlier.submitted) b (progress.old.number + 1) (shape cut.now.line)) ≡ None) }
+    ensures known { (b : Before) → IsEarlier progress.old.earlier b → OnOk result (IsEarlier progress.new.earlier (noted b (shape cut.now.line))) }
+    ensures building { OnOk result (progress.new.building ≡ put setting.now.topology.now.controllers progress.old.building (progress.old.number + 1) (shape cut.now.line)) }
+    ensures number { OnOk result (progress.new.number ≡ progress.old.number + 1) }
+    ensures few { OnOk result (progress.new.number ≤ 65536) }
+    ensures lanes { OnOk result (progress.new.earlier.lanes ≤ 16) }
 {
-    let Progress {
+    let number = progress.number + 1;
+    let line = &cut.line;
+    let numbers = &cut.numbers;
+    let ctrl = ctrl_of(setting, line);
+    check_line(setting, &progress.earlier, number, line, numbers, &ctrl)?;
+    put(
+        alloc,
+        setting,
+        &mut progress.building,
         number,
-        earlier,
-        building,
-    } = progress;
-    let number = number + 1;
-    let line = shape_of(line);
-    check_line(setting, &earlier, number, line)?;
-    let building = put(alloc, setting, building, number, line)?;
-    let earlier = noted(earlier, setting.nodes(), line)?;
-    Ok(Progress {
-        number,
-        earlier,
-        building,
-    })
+        line,
+        numbers,
+        &ctrl,
+    )?;
+    note(&mut progress.earlier, setting.nodes(), line, numbers)?;
+    progress.number = number;
+    Ok(())
 }
 
 /// What was read of the lines of a text. Where it isn't known what the whole text submits, a line is refused that
@@ -90,9 +95,9 @@ fn read_lines<'a>(
     };
     let mut rest = bytes;
     while !rest.is_empty() {
-        let (line, after) = split_line(rest);
-        progress = read_line(alloc, setting, progress, line)?;
-        rest = after;
+        let cut = take_line(rest);
+        read_line(alloc, setting, &mut progress, &cut)?;
+        rest = cut.rest;
     }
     Ok(progress)
 }

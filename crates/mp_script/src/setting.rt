@@ -2,11 +2,11 @@
 
 ghost use Rattle.std.specs.Prelude.{◌≡◌, ◌≤◌, length, slice_get, unwrap_or};
 ghost use Rattle.mp_checks.specs.Marks.{has};
-ghost use Rattle.mp_script.specs.Wording.{place_in, reports_ana, has_ana, is_there, has_box};
+ghost use Rattle.mp_script.specs.Wording.{place_in, reports_ana};
+ghost use Rattle.mp_script.specs.Numbers.{is_with_ana, is_box};
 ghost use Rattle.mp_script.specs.Places.{HasPlaces};
 
 use crate::requests::Requests;
-use crate::splitting::value_of;
 use mp_topology::topology::{Controller, Topology};
 use mp_words::numbers::{Ctrl, ReqId};
 use std::collections::BTreeMap;
@@ -43,20 +43,11 @@ impl<'a> Setting<'a> {
         }
     }
 
-    /// Whether a controller has this name.
-    #[tactic(auto, unfolding(crate::specs::Wording::is_there))]
-    pub(crate) fn is_there(&self, word: &'a [u8]) -> bool
-        ensures { result ≡ is_there self.now.topology.now.controllers word.now }
+    /// Whether a controller is there, and has ANA.
+    pub(crate) fn has_ana(&self, ctrl: &Option<Ctrl>) -> bool
+        ensures { result ≡ is_with_ana self.now.topology.now.controllers ctrl.now }
     {
-        self.find(word).is_some()
-    }
-
-    /// Whether a controller with ANA has this name.
-    #[tactic(auto, unfolding(crate::specs::Wording::has_ana))]
-    pub(crate) fn has_ana(&self, word: &'a [u8]) -> bool
-        ensures { result ≡ has_ana self.now.topology.now.controllers word.now }
-    {
-        match self.find(word) {
+        match ctrl {
             Some(ctrl) => reports_ana(self.topology.controllers.as_slice(), ctrl.get() as usize),
             None => false,
         }
@@ -73,11 +64,10 @@ impl<'a> Setting<'a> {
     }
 
     /// Whether there is a box with this number.
-    #[tactic(auto, unfolding(crate::specs::Wording::has_box))]
-    pub(crate) fn has_box(&self, word: &[u8]) -> bool
-        ensures { result ≡ has_box self.now.pages word.now }
+    pub(crate) fn has_box(&self, number: Option<u64>) -> bool
+        ensures { result ≡ is_box self.now.pages number }
     {
-        let page = value_of(word);
+        let page = number.unwrap_or(0);
         page < self.pages as u64 && page <= 4_294_967_295
     }
 }

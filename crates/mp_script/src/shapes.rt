@@ -1,9 +1,13 @@
 //! What the words of one line are.
 
-ghost use Rattle.std.specs.Prelude.{◌≡◌};
+ghost use Rattle.std.specs.Prelude.{◌≡◌, ◌<◌, ◌∷◌, length, IfSome};
+ghost use Rattle.mp_script.specs.Splitting.{lines_of, first_line, behind_line};
+ghost use Rattle.mp_script.specs.Numbers.{AreNumbers};
 ghost use Rattle.mp_script.specs.Shape.{shape, shape_of, shape_0, shape_1, shape_2, shape_3, is_word, is_comment};
 
-use crate::splitting::split_word;
+use crate::cut::Cut;
+use crate::numbers::Numbers;
+use crate::splitting::{begins, behind_feed, behind_line, split_digits, split_number, split_word};
 
 /// A line by its first word and the number of its words.
 #[derive(Clone, Copy)]
@@ -28,7 +32,16 @@ pub(crate) enum LineShape<'a> {
 pub(crate) fn is_word(w: &[u8], text: &str) -> bool
     ensures { result ≡ is_word w.now text.now }
 {
-    w == text.as_bytes()
+    let text = text.as_bytes();
+    if w.len() != text.len() {
+        return false;
+    }
+    for (i, b) in w.iter().enumerate() {
+        if *b != text[i] {
+            return false;
+        }
+    }
+    true
 }
 
 fn is_comment(w: &[u8]) -> bool
@@ -102,32 +115,132 @@ fn shape_3<'a>(w: &[u8], a: &'a [u8], b: &'a [u8], c: &'a [u8]) -> LineShape<'a>
     }
 }
 
-/// The words of a line. At most five of them are looked for.
+/// What the words of the first line are, of which at most five are looked for, the numbers of two of them, and what is
+/// left behind them.
 #[tactic(auto, unfolding(crate::specs::Shape::shape_of))]
-pub(crate) fn shape_of(line: &[u8]) -> LineShape<'_>
-    ensures { shape result ≡ shape_of line.now }
+fn shape_of(bytes: &[u8]) -> Cut<'_>
+    ensures shape { shape result.line ≡ shape_of (first_line bytes.now) }
+    ensures numbers { AreNumbers result.numbers (shape result.line) }
+    ensures behind { behind_line result.rest.now ≡ behind_line bytes.now }
 {
-    let (w, rest) = match split_word(line) {
+    let (w, rest) = match split_word(bytes) {
         Some(found) => found,
-        None => return LineShape::Skipped,
+        None => return cut(LineShape::Skipped, None, None, bytes),
     };
     if is_comment(w) {
-        return LineShape::Skipped;
+        return cut(LineShape::Skipped, None, None, rest);
     }
-    let (a, rest) = match split_word(rest) {
+    let (a, first, rest) = match split_number(rest) {
         Some(found) => found,
-        None => return shape_0(w),
+        None => return cut(shape_0(w), None, None, rest),
     };
-    let (b, rest) = match split_word(rest) {
+    let (b, second, rest) = match split_number(rest) {
         Some(found) => found,
-        None => return shape_1(w, a),
+        None => return cut(shape_1(w, a), first, None, rest),
     };
     let (c, rest) = match split_word(rest) {
         Some(found) => found,
-        None => return shape_2(w, a, b),
+        None => return cut(shape_2(w, a, b), first, second, rest),
     };
     match split_word(rest) {
-        Some(_) => LineShape::Unknown,
-        None => shape_3(w, a, b, c),
+        Some((_, rest)) => cut(LineShape::Unknown, first, second, rest),
+        None => cut(shape_3(w, a, b, c), first, second, rest),
     }
+}
+
+/// A line with its numbers, and what is left behind it.
+fn cut<'a>(line: LineShape<'a>, first: Option<u64>, second: Option<u64>, rest: &'a [u8]) -> Cut<'a>
+    ensures line { shape result.line ≡ shape line.entry }
+    ensures numbers { result.numbers ≡ record { first = first; second = second } }
+    ensures rest { result.rest.now ≡ rest.entry.now }
+{
+    Cut {
+        line,
+        numbers: Numbers { first, second },
+        rest,
+    }
+}
+
+/// A line `finish` with one number, where single blanks stand between its words.
+fn plain_finish(bytes: &[u8]) -> Option<Cut<'_>>
+    ensures shape { IfSome result (λ c. shape c.line ≡ shape_of (first_line bytes.now)) }
+    ensures numbers { IfSome result (λ c. AreNumbers c.numbers (shape c.line)) }
+    ensures behind { IfSome result (λ c. c.rest.now ≡ behind_line bytes.now) }
+{
+    if !begins(bytes, "finish ") {
+        return None;
+    }
+    let (_, words) = bytes.split_at(7);
+    let (r, n, rest) = match split_digits(words) {
+        Some(found) => found,
+        None => return None,
+    };
+    match behind_feed(rest) {
+        Some(after) => Some(cut(LineShape::Finish(r), Some(n), None, after)),
+        None => None,
+    }
+}
+
+/// A line `submit` with two numbers, where single blanks stand between its words.
+fn plain_submit(bytes: &[u8]) -> Option<Cut<'_>>
+    ensures shape { IfSome result (λ c. shape c.line ≡ shape_of (first_line bytes.now)) }
+    ensures numbers { IfSome result (λ c. AreNumbers c.numbers (shape c.line)) }
+    ensures behind { IfSome result (λ c. c.rest.now ≡ behind_line bytes.now) }
+{
+    if !begins(bytes, "submit ") {
+        return None;
+    }
+    let (_, words) = bytes.split_at(7);
+    let (r, n, more) = match split_digits(words) {
+        Some(found) => found,
+        None => return None,
+    };
+    if !begins(more, " ") {
+        return None;
+    }
+    let (_, last) = more.split_at(1);
+    let (k, m, rest) = match split_digits(last) {
+        Some(found) => found,
+        None => return None,
+    };
+    match behind_feed(rest) {
+        Some(after) => Some(cut(LineShape::Submit(r, k), Some(n), Some(m), after)),
+        None => None,
+    }
+}
+
+/// What the words of the first line are, the numbers of two of them, and the lines behind it. The lines that most lines
+/// are like are looked for first.
+fn line_at(bytes: &[u8]) -> Cut<'_>
+    ensures shape { shape result.line ≡ shape_of (first_line bytes.now) }
+    ensures numbers { AreNumbers result.numbers (shape result.line) }
+    ensures behind { result.rest.now ≡ behind_line bytes.now }
+{
+    if let Some(found) = plain_submit(bytes) {
+        return found;
+    }
+    if let Some(found) = plain_finish(bytes) {
+        return found;
+    }
+    let Cut {
+        line,
+        numbers,
+        rest,
+    } = shape_of(bytes);
+    Cut {
+        line,
+        numbers,
+        rest: behind_line(rest),
+    }
+}
+
+/// The first line, and the lines behind it.
+pub(crate) fn take_line(bytes: &[u8]) -> Cut<'_>
+    requires { 0 < length bytes.now }
+    ensures line { lines_of bytes.now ≡ first_line bytes.now ∷ lines_of result.rest.now }
+    ensures shape { shape result.line ≡ shape_of (first_line bytes.now) }
+    ensures numbers { AreNumbers result.numbers (shape result.line) }
+    ensures shorter { length result.rest.now < length bytes.now }
+{
+    line_at(bytes)
 }

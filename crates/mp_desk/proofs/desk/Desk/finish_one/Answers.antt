@@ -118,15 +118,15 @@ returns-in-Back-clause-weight g c =
     weighs c.args.answers.now c.args.flying (g.S.Steps.core c.args.steps.now) (g.S.Steps.core c.loop.steps) (g.S.Steps.core c.finish.new.steps) (desk_of c.args.self.now) (desk_of c.loop.self) (desk_of c.land-in-Back.new.self) (desk_of c.reserve.new.self) c.loop.request c.finish.new.request (finished.Back c.in-Back.note) c.loop.counter c.left-end.result c.loop.invariant
     (record { finishes = subst (λ f. Finishes c.args.answers.now (g.S.Steps.core c.loop.steps) (g.S.Steps.core c.finish.new.steps) f c.loop.request c.finish.new.request (finished.Back c.in-Back.note)) c.flight-in-loop.ensures c.in-Back.ensures; same = c.loop.invariant.same; left = tt; room = c.reserve.ensures.desk; desk = c.land-in-Back.ensures })
 
-pub push-requires : goal.push-requires
-push-requires g c = let room = (ok_so c.reserve.result c.is_err.result c.is_err.ensures.value c.if-is_err.false c.reserve.ensures.room).notes in omega (arith, room)
+pub push_section-requires : goal.push_section-requires
+push_section-requires g c = let room = (ok_so c.reserve.result c.is_err.result c.is_err.ensures.value c.if-is_err.false c.reserve.ensures.room).notes in omega (arith, room)
 
 pub loop-preserved : goal.loop-preserved
 loop-preserved g c =
     let slot : c.moved.inside.slot ≡ c.in-Moved.again.slot = ap (λ f. f.slot) (c.moved.view_is ∙ c.of.ensures) in
     goes_on c.args.answers.now c.args.flying (g.S.Steps.core c.args.steps.now) (g.S.Steps.core c.loop.steps) (g.S.Steps.core c.finish.new.steps) (desk_of c.args.self.now) (desk_of c.loop.self) _ (desk_of c.reserve.new.self) c.loop.request c.finish.new.request c.in-Moved.again c.in-Moved.row c.in-Moved.note c.loop.counter c.left-end.result c.loop.invariant
     (subst (λ f. Finishes c.args.answers.now (g.S.Steps.core c.loop.steps) (g.S.Steps.core c.finish.new.steps) f c.loop.request c.finish.new.request (finished.Moved c.in-Moved.again c.in-Moved.row c.in-Moved.note)) c.flight-in-loop.ensures c.in-Moved.ensures) c.reserve.ensures.desk
-    (λ i. record (desk_of c.reserve.new.self) { events = (c.push.ensures.events ∙ (λ j. c.reserve.new.self.notes.events ++ moved_section c.in-Moved.note (slot j) c.in-Moved.row.version ∷ [])) i }) c.loop-test.true
+    (λ i. record (desk_of c.reserve.new.self) { events = (c.push_section.ensures.events ∙ (λ j. c.reserve.new.self.notes.events ++ moved_section c.in-Moved.note (slot j) c.in-Moved.row.version ∷ [])) i }) c.loop-test.true
 
 pub returns-clause-does : goal.returns-clause-does
 returns-clause-does g c near line k =

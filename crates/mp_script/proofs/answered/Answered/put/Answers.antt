@@ -1,8 +1,15 @@
 use Rattle.mp_script.proofs.Entries.{inserted}
+use Rattle.mp_script.proofs.answered.Answered.put.Goals.{in-Ok, in-Err}
 use Rattle.mp_script.proofs.answered.Answered.put.Goals as goal
 
-pub invariant_of-result : goal.invariant_of-result
-invariant_of-result c = (inserted c.args.answer c.args.self c.self.inside.found.entries c.insert.new.self.entries c.get.result c.self.invariant c.requires.answer c.self.view_is c.requires.apart c.get.ensures.number c.in-Ok.ensures.entries).1
+pub invariant_of-self : goal.invariant_of-self
+invariant_of-self c = elim c.match-insert.branch [
+  | in-Ok w ↦ (inserted c.args.answer c.args.self.now c.self.inside.found.entries c.insert.new.self.entries c.get.result c.self.invariant c.requires.answer c.self.view_is c.requires.apart c.get.ensures.number w.in-Ok.ensures.entries).1
+  | in-Err w ↦ rw w.in-Err.ensures.err c.self.invariant
+]
 
-pub returns-in-Ok : goal.returns-in-Ok
-returns-in-Ok c = (inserted c.args.answer c.args.self c.self.inside.found.entries c.insert.new.self.entries c.get.result c.self.invariant c.requires.answer c.self.view_is c.requires.apart c.get.ensures.number c.in-Ok.ensures.entries).0
+pub returns : goal.returns
+returns c = elim c.match-insert.branch [
+  | in-Ok w ↦ rw w.result-is (inserted c.args.answer c.args.self.now c.self.inside.found.entries c.insert.new.self.entries c.get.result c.self.invariant c.requires.answer c.self.view_is c.requires.apart c.get.ensures.number w.in-Ok.ensures.entries).0
+  | in-Err w ↦ rw w.result-is tt
+]
