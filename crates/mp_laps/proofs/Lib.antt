@@ -1,3 +1,4 @@
 pub mod Keeping
+pub mod Laning
 pub mod Lapping
 pub mod Tabling

@@ -1,3 +1,4 @@
 pub mod Keeping
+pub mod Lanes
 pub mod OneLap
 pub mod Tabled

@@ -15,12 +15,18 @@ mod bench;
 #[cfg(test)]
 mod counted;
 #[cfg(test)]
+mod desk_tests;
+#[cfg(test)]
 mod keeper_tests;
+#[cfg(test)]
+mod lane_tests;
 mod lap;
 #[cfg(test)]
 mod step_tests;
 #[cfg(test)]
 mod table_tests;
+#[cfg(test)]
+mod telling;
 #[cfg(test)]
 mod tests;
 
