@@ -2,3 +2,4 @@ pub mod Joined
 pub mod Trails
 pub mod Noted
 pub mod Apart
+pub mod Decimals

@@ -1,6 +1,6 @@
 //! The text of the rows' and the order's versions.
 
-ghost use Rattle.std.specs.Prelude.{◌≡◌, ◌++◌, OnOk, string_bytes};
+ghost use Rattle.std.specs.Prelude.{◌≡◌, ◌++◌, OnOk};
 ghost use Rattle.std.specs.List.{flat_map};
 ghost use Rattle.mp_words.specs.Order.{slots_of};
 ghost use Rattle.mp_record.specs.RunText.{head_line, row_line, is_written, order_line};
@@ -17,25 +17,25 @@ use sqlite_items::Items;
 use std::alloc::AllocError;
 
 /// The line of the namespace and the opening policy.
-pub(crate) fn put_head(text: &mut String, topology: &Topology) -> Result<(), AllocError>
-    ensures { OnOk result (string_bytes text.new ≡ string_bytes text.old ++ head_line topology.now) }
+pub(crate) fn put_head(text: &mut Vec<u8>, topology: &Topology) -> Result<(), AllocError>
+    ensures { OnOk result (text.new.items ≡ text.old.items ++ head_line topology.now) }
 {
     put_one(text, "head", topology.nsid)?;
-    text.push_str(" ")?;
-    text.push_str(policy_name(topology.policy))?;
-    text.push_str("\n")
+    text.extend_from_slice(b" ")?;
+    text.extend_from_slice(policy_name(topology.policy).as_bytes())?;
+    text.extend_from_slice(b"\n")
 }
 
 /// The line of a version of a row.
-fn put_row(text: &mut String, topology: &Topology, entry: &RowEntry) -> Result<(), AllocError>
-    ensures { OnOk result (string_bytes text.new ≡ string_bytes text.old ++ row_line topology.now entry.now) }
+fn put_row(text: &mut Vec<u8>, topology: &Topology, entry: &RowEntry) -> Result<(), AllocError>
+    ensures { OnOk result (text.new.items ≡ text.old.items ++ row_line topology.now entry.now) }
 {
     put_two(text, "row", entry.slot.get(), entry.row.version)?;
-    text.push_str(" ")?;
+    text.extend_from_slice(b" ")?;
     put_maker(text, entry.by)?;
-    text.push_str(" ")?;
+    text.extend_from_slice(b" ")?;
     put_path(text, topology, entry.row)?;
-    text.push_str("\n")
+    text.extend_from_slice(b"\n")
 }
 
 /// Whether a version of a row is written: each is, but a free one of the opening.
@@ -46,8 +46,8 @@ fn is_shown(entry: &RowEntry) -> bool
 }
 
 /// The line of a version of a row, where it is written.
-fn put_version(text: &mut String, topology: &Topology, entry: &RowEntry) -> Result<(), AllocError>
-    ensures { OnOk result (string_bytes text.new ≡ string_bytes text.old ++ written_row topology.now entry.now) }
+fn put_version(text: &mut Vec<u8>, topology: &Topology, entry: &RowEntry) -> Result<(), AllocError>
+    ensures { OnOk result (text.new.items ≡ text.old.items ++ written_row topology.now entry.now) }
 {
     if is_shown(entry) {
         return put_row(text, topology, entry);
@@ -56,8 +56,8 @@ fn put_version(text: &mut String, topology: &Topology, entry: &RowEntry) -> Resu
 }
 
 /// The lines of the versions of one slot's row.
-fn put_slot(text: &mut String, topology: &Topology, entries: &[RowEntry]) -> Result<(), AllocError>
-    ensures { OnOk result (string_bytes text.new ≡ string_bytes text.old ++ written_rows topology.now entries.now) }
+fn put_slot(text: &mut Vec<u8>, topology: &Topology, entries: &[RowEntry]) -> Result<(), AllocError>
+    ensures { OnOk result (text.new.items ≡ text.old.items ++ written_rows topology.now entries.now) }
 {
     for entry in entries {
         put_version(text, topology, entry)?;
@@ -67,11 +67,11 @@ fn put_slot(text: &mut String, topology: &Topology, entries: &[RowEntry]) -> Res
 
 /// The lines of the versions of all rows.
 pub(crate) fn put_rows(
-    text: &mut String,
+    text: &mut Vec<u8>,
     topology: &Topology,
     rows: &[Items<RowEntry>],
 ) -> Result<(), AllocError>
-    ensures { OnOk result (string_bytes text.new ≡ string_bytes text.old ++ flat_map (written_rows topology.now) rows.now) }
+    ensures { OnOk result (text.new.items ≡ text.old.items ++ flat_map (written_rows topology.now) rows.now) }
 {
     for entries in rows {
         put_slot(text, topology, entries.as_slice())?;
@@ -91,22 +91,22 @@ fn listed(order: &Order) -> &[Slot]
 }
 
 /// The line of a version of the order.
-fn put_order(text: &mut String, entry: &OrderEntry) -> Result<(), AllocError>
-    ensures { OnOk result (string_bytes text.new ≡ string_bytes text.old ++ order_line entry.now) }
+fn put_order(text: &mut Vec<u8>, entry: &OrderEntry) -> Result<(), AllocError>
+    ensures { OnOk result (text.new.items ≡ text.old.items ++ order_line entry.now) }
 {
     put_one(text, "order", entry.order.version)?;
-    text.push_str(" ")?;
+    text.extend_from_slice(b" ")?;
     put_maker(text, entry.by)?;
-    text.push_str(" ")?;
-    text.push_str(policy_name(entry.order.policy))?;
-    text.push_str(" ")?;
+    text.extend_from_slice(b" ")?;
+    text.extend_from_slice(policy_name(entry.order.policy).as_bytes())?;
+    text.extend_from_slice(b" ")?;
     put_slots(text, listed(&entry.order))?;
-    text.push_str("\n")
+    text.extend_from_slice(b"\n")
 }
 
 /// The line of what the keeper made; a closing has one only with the notes.
-fn put_kept(text: &mut String, notes: bool, entry: &KeepEntry) -> Result<(), AllocError>
-    ensures { OnOk result (string_bytes text.new ≡ string_bytes text.old ++ noted_keep notes entry.now) }
+fn put_kept(text: &mut Vec<u8>, notes: bool, entry: &KeepEntry) -> Result<(), AllocError>
+    ensures { OnOk result (text.new.items ≡ text.old.items ++ noted_keep notes entry.now) }
 {
     match entry {
         KeepEntry::Order(entry) => put_order(text, entry),
@@ -121,11 +121,11 @@ fn put_kept(text: &mut String, notes: bool, entry: &KeepEntry) -> Result<(), All
 
 /// The lines of what the keeper made.
 pub(crate) fn put_keeping(
-    text: &mut String,
+    text: &mut Vec<u8>,
     notes: bool,
     keeping: &[KeepEntry],
 ) -> Result<(), AllocError>
-    ensures { OnOk result (string_bytes text.new ≡ string_bytes text.old ++ flat_map (noted_keep notes) keeping.now) }
+    ensures { OnOk result (text.new.items ≡ text.old.items ++ flat_map (noted_keep notes) keeping.now) }
 {
     for entry in keeping {
         put_kept(text, notes, entry)?;

@@ -1,6 +1,6 @@
 //! The text of kept events.
 
-ghost use Rattle.std.specs.Prelude.{◌≡◌, ◌||◌, ◌++◌, OnOk, string_bytes, length};
+ghost use Rattle.std.specs.Prelude.{◌≡◌, ◌||◌, ◌++◌, OnOk, length};
 ghost use Rattle.std.specs.List.{flat_map};
 ghost use Rattle.mp_record.specs.RunView.{is_plain};
 ghost use Rattle.mp_record.specs.NotedText.{noted_event};
@@ -21,62 +21,80 @@ fn has_line(notes: bool, event: &Event) -> bool
 }
 
 /// The line of an event; a section has one only with the notes.
-fn put_noted(text: &mut String, notes: bool, event: &Event) -> Result<(), AllocError>
-    ensures { OnOk result (string_bytes text.new ≡ string_bytes text.old ++ noted_event notes event.now) }
+fn put_noted(
+    text: &mut Vec<u8>,
+    line: &mut [u8; 128],
+    notes: bool,
+    event: &Event,
+) -> Result<(), AllocError>
+    ensures { OnOk result (text.new.items ≡ text.old.items ++ noted_event notes event.now) }
 {
     if has_line(notes, event) {
-        return put_event(text, event);
+        return put_event(text, line, event);
     }
     Ok(())
 }
 
 /// The line of an event with another ticket, where it is a section; a section has one only with the notes.
-fn put_retold(text: &mut String, notes: bool, event: &Event, ticket: u32) -> Result<(), AllocError>
-    ensures { OnOk result (string_bytes text.new ≡ string_bytes text.old ++ noted_event notes (retold ticket event.now)) }
+fn put_retold(
+    text: &mut Vec<u8>,
+    line: &mut [u8; 128],
+    notes: bool,
+    event: &Event,
+    ticket: u32,
+) -> Result<(), AllocError>
+    ensures { OnOk result (text.new.items ≡ text.old.items ++ noted_event notes (retold ticket event.now)) }
 {
     if has_line(notes, event) {
-        return put_event(text, &retold(event, ticket));
+        return put_event(text, line, &retold(event, ticket));
     }
     Ok(())
 }
 
 /// The line of a kept event. One that is small and no section has a line without the notes too.
-fn put_kept(text: &mut String, notes: bool, kept: &Kept, apart: &[Event]) -> Result<(), AllocError>
+fn put_kept(
+    text: &mut Vec<u8>,
+    line: &mut [u8; 128],
+    notes: bool,
+    kept: &Kept,
+    apart: &[Event],
+) -> Result<(), AllocError>
     requires { IsBelow (length apart.now) kept.now }
-    ensures { OnOk result (string_bytes text.new ≡ string_bytes text.old ++ noted_event notes (told apart.now kept.now)) }
+    ensures { OnOk result (text.new.items ≡ text.old.items ++ noted_event notes (told apart.now kept.now)) }
 {
     match kept {
-        Kept::Apart(place) => put_noted(text, notes, &apart[*place]),
-        Kept::Section { like, ticket } => put_retold(text, notes, &apart[*like], *ticket),
-        Kept::At { line, said } => put_at(text, *line, *said),
-        Kept::Try { req, hop, end } => put_try(text, *req, *hop, *end),
+        Kept::Apart(place) => put_noted(text, line, notes, &apart[*place]),
+        Kept::Section { like, ticket } => put_retold(text, line, notes, &apart[*like], *ticket),
+        Kept::At { line: number, said } => put_at(text, line, *number, *said),
+        Kept::Try { req, hop, end } => put_try(text, line, *req, *hop, *end),
         Kept::Done {
             req,
             hop,
             statuses,
             count,
-        } => put_fin(text, *req, *hop, statuses, *count, None),
+        } => put_fin(text, line, *req, *hop, statuses, *count, &None),
         Kept::Unset {
             req,
             hop,
             statuses,
             count,
-        } => put_fin(text, *req, *hop, statuses, *count, Some(Back::Unset)),
+        } => put_fin(text, line, *req, *hop, statuses, *count, &Some(Back::Unset)),
     }
 }
 
 /// The lines of kept events.
 pub(crate) fn put_each(
-    text: &mut String,
+    text: &mut Vec<u8>,
     notes: bool,
     kept: &[Kept],
     apart: &[Event],
 ) -> Result<(), AllocError>
     requires { AreBelow (length apart.now) kept.now }
-    ensures { OnOk result (string_bytes text.new ≡ string_bytes text.old ++ flat_map (λ k. noted_event notes (told apart.now k)) kept.now) }
+    ensures { OnOk result (text.new.items ≡ text.old.items ++ flat_map (λ k. noted_event notes (told apart.now k)) kept.now) }
 {
+    let mut line = [0; 128];
     for one in kept {
-        put_kept(text, notes, one, apart)?;
+        put_kept(text, &mut line, notes, one, apart)?;
     }
     Ok(())
 }

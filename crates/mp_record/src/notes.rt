@@ -1,6 +1,6 @@
 //! The events of one lane.
 
-ghost use Rattle.std.specs.Prelude.{ℕ, ◌≡◌, ◌≤◌, ◌<◌, ◌+◌, List, ◌++◌, ◌∷◌, [], Some, IfOk, IfSome, OnOk, OnErr, filter, length, string_bytes, slice_get, vec_len, vec_capacity};
+ghost use Rattle.std.specs.Prelude.{ℕ, ◌≡◌, ◌≤◌, ◌<◌, ◌+◌, List, ◌++◌, ◌∷◌, [], Some, IfOk, IfSome, OnOk, OnErr, filter, length, slice_get, vec_len, vec_capacity};
 ghost use Rattle.mp_record.specs.RunView.{is_plain};
 ghost use Rattle.mp_record.specs.NotedText.{noted_events};
 ghost use Rattle.mp_record.specs.Kept.{told, IsBelow};
@@ -291,8 +291,8 @@ impl LaneNotes {
     }
 
     /// Puts the lines of the events behind a text; a section has one only with the notes.
-    pub(crate) fn put(&self, text: &mut String, notes: bool) -> Result<(), AllocError>
-        ensures { OnOk result (string_bytes text.new ≡ string_bytes text.old ++ noted_events notes self.now.events) }
+    pub(crate) fn put(&self, text: &mut Vec<u8>, notes: bool) -> Result<(), AllocError>
+        ensures { OnOk result (text.new.items ≡ text.old.items ++ noted_events notes self.now.events) }
     {
         put_each(text, notes, self.kept.as_slice(), self.apart.as_slice())
     }

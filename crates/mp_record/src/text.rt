@@ -1,6 +1,6 @@
 //! The text of a run.
 
-ghost use Rattle.std.specs.Prelude.{◌≡◌, ◌++◌, IfOk, string_bytes};
+ghost use Rattle.std.specs.Prelude.{◌≡◌, ◌++◌, IfOk};
 ghost use Rattle.mp_record.specs.RunView.{view_of, noted};
 ghost use Rattle.mp_record.specs.RunText.{run_text};
 ghost use Rattle.mp_record.specs.NotedText.{noted_text};
@@ -21,19 +21,24 @@ pub enum TextError {
 }
 
 /// The text of a run, part by part.
-fn text_of(alloc: Global, run: &Run, topology: &Topology, notes: bool) -> Result<String, AllocError>
-    ensures { IfOk result (λ text. string_bytes text ≡ noted_text notes topology.now run.now) }
+fn text_of(
+    alloc: Global,
+    run: &Run,
+    topology: &Topology,
+    notes: bool,
+) -> Result<Vec<u8>, AllocError>
+    ensures { IfOk result (λ text. text.items ≡ noted_text notes topology.now run.now) }
 {
     let rows = run.rows.as_slice();
-    let mut text = String::from_str(alloc, "anamp 1\n")?;
+    let mut text = Vec::from_slice(alloc, b"anamp 1\n")?;
     put_head(&mut text, topology)?;
     put_rows(&mut text, topology, rows)?;
     put_keeping(&mut text, notes, run.keeping.as_slice())?;
     put_lanes(&mut text, notes, &run.keeper, run.lanes.as_slice())?;
-    text.push_str("drain\n")?;
+    text.extend_from_slice(b"drain\n")?;
     run.drain.put(&mut text, notes)?;
     put_requests(&mut text, topology, rows, run.requests.as_slice())?;
-    text.push_str("end\n")?;
+    text.extend_from_slice(b"end\n")?;
     Ok(text)
 }
 
@@ -51,7 +56,7 @@ pub fn run_text(
     ensures { IfOk result (λ bytes. bytes.items ≡ run_text topology.now (noted notes (view_of run.now))) }
 {
     match text_of(alloc, run, topology, notes) {
-        Ok(text) => Ok(text.into_bytes()),
+        Ok(text) => Ok(text),
         Err(AllocError) => Err(TextError::NoMemory),
     }
 }

@@ -55,11 +55,12 @@ const SAID: &str =
 #[test]
 fn writes_what_a_line_says(rt: HostRuntime) -> Result<(), Fail> {
     let alloc = rt.alloc();
-    let mut text = String::new(alloc);
+    let mut text = Vec::new(alloc);
+    let mut line = [0; 128];
     for number in 0..24 {
-        put_event(&mut text, &super::at(2, said(number)))?;
+        put_event(&mut text, &mut line, &super::at(2, said(number)))?;
     }
-    assert_eq!(rt; text.as_str(), SAID);
+    assert_eq!(rt; text.as_slice(), SAID.as_bytes());
     Ok(())
 }
 
@@ -156,11 +157,11 @@ const PLAIN: &str =
 fn writes_sections_with_the_notes(rt: HostRuntime) -> Result<(), Fail> {
     let alloc = rt.alloc();
     for (with_notes, wanted) in [(true, NOTED), (false, PLAIN)] {
-        let mut text = String::new(alloc);
+        let mut text = Vec::new(alloc);
         for number in 0..8 {
             notes(alloc, &[event(number)])?.put(&mut text, with_notes)?;
         }
-        assert_eq!(rt; text.as_str(), wanted);
+        assert_eq!(rt; text.as_slice(), wanted.as_bytes());
     }
     Ok(())
 }
@@ -206,12 +207,12 @@ fn kept() -> [KeepEntry; 2] {
 #[test]
 fn writes_closings_with_the_notes(rt: HostRuntime) -> Result<(), Fail> {
     let alloc = rt.alloc();
-    let mut text = String::new(alloc);
+    let mut text = Vec::new(alloc);
     put_keeping(&mut text, false, &kept())?;
     put_keeping(&mut text, true, &kept())?;
     let order = "order 4 16.0 round-robin -\n";
     let wanted = format!(in alloc; "{order}{order}closing 2 b 1 12 3 6 16.0\n")?;
-    assert_eq!(rt; text.as_str(), wanted.as_str());
+    assert_eq!(rt; text.as_slice(), wanted.as_bytes());
     Ok(())
 }
 
@@ -251,12 +252,12 @@ const VERSIONS: &str =
 fn writes_each_version_of_a_row(rt: HostRuntime) -> Result<(), Fail> {
     let alloc = rt.alloc();
     let topology = topology(alloc)?;
-    let mut text = String::new(alloc);
+    let mut text = Vec::new(alloc);
     for number in 0..9 {
         let rows = [one(alloc, version(number))?];
         put_rows(&mut text, &topology, &rows)?;
     }
-    assert_eq!(rt; text.as_str(), VERSIONS);
+    assert_eq!(rt; text.as_slice(), VERSIONS.as_bytes());
     Ok(())
 }
 
@@ -308,12 +309,14 @@ fn add_failed(asked: &mut Request) -> Result<(), SubmitError> {
 }
 
 /// The line of a request.
-fn line_of(alloc: Global, asked: &Request) -> Result<String, AllocError> {
-    let mut text = String::new(alloc);
+fn line_of(alloc: Global, asked: &Request) -> Result<Vec<u8>, AllocError> {
+    let mut text = Vec::new(alloc);
+    let mut line = [0; 128];
     let topology = topology(alloc)?;
     let rows = rows(alloc)?;
     put_request(
         &mut text,
+        &mut line,
         &topology,
         rows.as_slice(),
         asked.id(),
@@ -328,27 +331,27 @@ fn writes_trails_and_outcomes(rt: HostRuntime) -> Result<(), Fail> {
     let alloc = rt.alloc();
     let mut first = asked(alloc);
     assert_eq!(rt;
-        line_of(alloc, &first)?.as_str(),
-        "request 7 5 - listed 0\n"
+        line_of(alloc, &first)?.as_slice(),
+        b"request 7 5 - listed 0\n".as_slice()
     );
     add_lost(&mut first)?;
     assert_eq!(rt;
-        line_of(alloc, &first)?.as_str(),
-        "request 7 5 a listed 2\n"
+        line_of(alloc, &first)?.as_slice(),
+        b"request 7 5 a listed 2\n".as_slice()
     );
     add_listed(&mut first)?;
     add_listed(&mut first)?;
     add_ended(&mut first)?;
     assert_eq!(rt;
-        line_of(alloc, &first)?.as_str(),
-        "request 7 5 a,b done 010A 5\n"
+        line_of(alloc, &first)?.as_slice(),
+        b"request 7 5 a,b done 010A 5\n".as_slice()
     );
     let mut second = asked(alloc);
     add_lost(&mut second)?;
     add_failed(&mut second)?;
     assert_eq!(rt;
-        line_of(alloc, &second)?.as_str(),
-        "request 7 5 a failed 2\n"
+        line_of(alloc, &second)?.as_slice(),
+        b"request 7 5 a failed 2\n".as_slice()
     );
     Ok(())
 }

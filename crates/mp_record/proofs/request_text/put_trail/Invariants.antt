@@ -1,4 +1,4 @@
-use Rattle.std.proofs.Common.{◌≡◌, ◌++◌, string_bytes}
+use Rattle.std.proofs.Common.{◌≡◌, ◌++◌}
 use Rattle.mp_record.specs.Words.{joined}
 use Rattle.mp_record.specs.RunText.{as_written}
 use Rattle.mp_record.proofs.Joined.{has_items}
@@ -8,6 +8,6 @@ use Rattle.mp_record.proofs.request_text.put_trail.Given as goal
 -- the names of the tries so far stand in the text
 abbrev pub invariant-loop-place : goal.invariant-loop-place
 invariant-loop-place l = record {
-  text : string_bytes l.text ≡ string_bytes l.initial.text ++ joined as_written (trail_of l.topology l.rows l.tries.items l.place);
+  text : l.text.items ≡ l.initial.text.items ++ joined as_written (trail_of l.topology l.rows l.tries.items l.place);
   further : l.further ≡ has_items (trail_of l.topology l.rows l.tries.items l.place);
 }
