@@ -111,11 +111,6 @@ reaped_said (reap.Freed entry flips) = said.Freed entry.slot entry.row.version f
 reaped_said (reap.Again slot (stop.Section grace side inside)) = said.AgainSection slot grace side inside
 reaped_said (reap.Again slot (stop.Depth depth)) = said.AgainDepth slot depth
 
--- the section that a finish entered, where it did
-abbrev pub noted_before : Option Note → List Event
-noted_before None = []
-noted_before (Some n) = section n ∷ []
-
 -- a row change met no other row
 abbrev pub is_over : ChangeEnd → Bool
 is_over (change.Changed e) = true

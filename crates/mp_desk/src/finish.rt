@@ -9,7 +9,7 @@ ghost use Rattle.mp_desk.specs.Calls.{finish, Sits};
 ghost use Rattle.mp_desk.specs.DeskView.{entering, landing, noting, unended};
 ghost use Rattle.mp_desk.specs.Desks.{desk_of, BreaksCalls, BreaksFlight, DoesCalls, DoesFlight, HasRoom, IsTaken, KeepsStand, Leaves};
 ghost use Rattle.mp_desk.specs.Indexed.{flying_of};
-ghost use Rattle.mp_desk.specs.Says.{back_in, end_event, entries_back, noted_before};
+ghost use Rattle.mp_desk.specs.Says.{back_in, end_event, entries_back, section};
 
 use crate::aloft::Aloft;
 use crate::desk::Desk;
@@ -86,11 +86,11 @@ impl Desk {
             }
             match finish(steps, gate, flight.flight(), &mut request, answers) {
                 Finished::Done(_) => {
-                    self.land(request, None);
+                    self.land(request);
                     return Ok(());
                 }
                 Finished::Back(note) => {
-                    self.land(request, Some(note));
+                    self.land_back(request, &note);
                     return Ok(());
                 }
                 Finished::Moved(again, row, note) => {
@@ -104,12 +104,23 @@ impl Desk {
     }
 
     /// Notes how the last try of a request ended, and puts the request where it belongs.
-    fn land(&mut self, request: Request, entered: Option<Note>)
+    fn land(&mut self, request: Request)
         requires room { HasRoom self.old }
         requires tried { (made : Try) × (last_or None request.tries ≡ Some made) }
-        ensures { desk_of self.new ≡ landing request (back_in (last_or None request.tries)) (entering (entries_back (back_in (last_or None request.tries))) (noting (noted_before entered ++ end_event request (last_or None request.tries)) (desk_of self.old))) }
+        ensures { desk_of self.new ≡ landing request (back_in (last_or None request.tries)) (entering (entries_back (back_in (last_or None request.tries))) (noting (end_event request (last_or None request.tries)) (desk_of self.old))) }
     {
-        note_section(&mut self.notes, &entered);
+        let back = note_end(&mut self.notes, &request);
+        self.take_back(request, &back);
+    }
+
+    /// Notes the section of a failover and how the last try of its request ended, and puts the request where it belongs.
+    #[inline(never)]
+    fn land_back(&mut self, request: Request, entered: &Note)
+        requires room { HasRoom self.old }
+        requires tried { (made : Try) × (last_or None request.tries ≡ Some made) }
+        ensures { desk_of self.new ≡ landing request (back_in (last_or None request.tries)) (entering (entries_back (back_in (last_or None request.tries))) (noting (section entered.now ∷ end_event request (last_or None request.tries)) (desk_of self.old))) }
+    {
+        self.notes.push_section(entered, &None);
         let back = note_end(&mut self.notes, &request);
         self.take_back(request, &back);
     }
@@ -132,17 +143,6 @@ impl Desk {
     }
 }
 
-/// Notes the section that a finish entered, where it did.
-fn note_section(notes: &mut LaneNotes, entered: &Option<Note>)
-    requires room { 2 ≤ notes.old.spare }
-    ensures events { notes.new.events ≡ notes.old.events ++ noted_before entered.now }
-    ensures room { 1 ≤ notes.new.spare }
-{
-    if let Some(note) = entered {
-        notes.push_section(note, &None);
-    }
-}
-
 /// Notes how the last try of a request ended, and answers how the request came back, where it did.
 fn note_end(notes: &mut LaneNotes, request: &Request) -> Option<Back>
     requires room { 1 ≤ notes.old.spare }
@@ -150,11 +150,21 @@ fn note_end(notes: &mut LaneNotes, request: &Request) -> Option<Back>
     ensures events { notes.new.events ≡ notes.old.events ++ end_event request.now (last_or None request.now.tries) }
     ensures back { result ≡ back_in (last_or None request.now.tries) }
 {
-    let (req, hop) = (request.id(), request.next() - 1);
     match request.tries().last_whole() {
-        Some(last) => note_last(notes, req, hop, last),
-        None => note_last(notes, req, hop, &last_of(request)),
+        Some(last) => note_last(notes, request.id(), request.next() - 1, last),
+        None => note_unkept(notes, request),
     }
+}
+
+/// Notes how the last try of a request ended, which isn't kept whole, and answers how the request came back, where it did.
+#[inline(never)]
+fn note_unkept(notes: &mut LaneNotes, request: &Request) -> Option<Back>
+    requires room { 1 ≤ notes.old.spare }
+    requires tried { (made : Try) × (last_or None request.now.tries ≡ Some made) }
+    ensures events { notes.new.events ≡ notes.old.events ++ end_event request.now (last_or None request.now.tries) }
+    ensures back { result ≡ back_in (last_or None request.now.tries) }
+{
+    note_last(notes, request.id(), request.next() - 1, &last_of(request))
 }
 
 /// Notes how a try ended, and answers how its request came back, where it did.

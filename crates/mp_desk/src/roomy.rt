@@ -1,6 +1,6 @@
 //! A list with room.
 
-ghost use Rattle.std.specs.Prelude.{◌≡◌, ◌≤◌, ◌<◌, ◌+◌, ◌++◌, ◌∷◌, [], OnOk, OnErr};
+ghost use Rattle.std.specs.Prelude.{◌≡◌, ◌≤◌, ◌<◌, ◌+◌, ◌++◌, ◌∷◌, [], ◌==◌, length, OnOk, OnErr};
 
 use crate::full::Full;
 use std::alloc::Global;
@@ -50,6 +50,13 @@ impl<T> Roomy<T> {
         ensures { self.new.items ≡ self.old.items ++ item ∷ [] }
     {
         self.items.push_reserved(item);
+    }
+
+    /// Whether there is no item.
+    pub fn is_empty(&self) -> bool
+        ensures { result ≡ (length self.now.items == 0) }
+    {
+        self.items.is_empty()
     }
 
     /// The items, in order.

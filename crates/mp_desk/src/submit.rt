@@ -114,11 +114,20 @@ fn note_try(notes: &mut LaneNotes, request: &Request)
     requires tried { (made : Try) × (last_or None request.now.tries ≡ Some made) }
     ensures { (made : Try) → last_or None request.now.tries ≡ Some made → notes.new.events ≡ notes.old.events ++ section made.note ∷ try_event request.now made ∷ [] }
 {
-    let req = request.id();
     match request.tries().last_whole() {
-        Some(made) => note_made(notes, req, made),
-        None => note_made(notes, req, &last_of(request)),
+        Some(made) => note_made(notes, request.id(), made),
+        None => note_unkept(notes, request),
     }
+}
+
+/// Notes the last try of a request, which isn't kept whole.
+#[inline(never)]
+fn note_unkept(notes: &mut LaneNotes, request: &Request)
+    requires room { 2 ≤ notes.old.spare }
+    requires tried { (made : Try) × (last_or None request.now.tries ≡ Some made) }
+    ensures { (made : Try) → last_or None request.now.tries ≡ Some made → notes.new.events ≡ notes.old.events ++ section made.note ∷ try_event request.now made ∷ [] }
+{
+    note_made(notes, request.id(), &last_of(request));
 }
 
 /// Notes a try of a request, with its section.

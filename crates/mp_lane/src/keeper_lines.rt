@@ -31,6 +31,7 @@ use mp_words::row::Policy;
 use std::alloc::Global;
 
 /// Adds a path that begins so.
+#[inline(never)]
 fn gift_line<S: KeeperSteps>(
     desk: &mut Desk,
     keeper: &mut Keeper,
@@ -50,6 +51,7 @@ fn gift_line<S: KeeperSteps>(
 
 /// Adds a path of a controller, by the page in a box where one is named. A refused page is what the line says, and
 /// changes nothing.
+#[inline(never)]
 fn add_line<S: KeeperSteps>(
     alloc: Global,
     desk: &mut Desk,
@@ -87,6 +89,7 @@ fn add_line<S: KeeperSteps>(
 }
 
 /// Begins the removal of a controller's path.
+#[inline(never)]
 fn remove_line<S: KeeperSteps>(
     desk: &mut Desk,
     keeper: &mut Keeper,
@@ -104,6 +107,7 @@ fn remove_line<S: KeeperSteps>(
 }
 
 /// Carries the removals as far as they go.
+#[inline(never)]
 fn reap_line<S: KeeperSteps>(
     desk: &mut Desk,
     keeper: &mut Keeper,
@@ -120,6 +124,7 @@ fn reap_line<S: KeeperSteps>(
 }
 
 /// Sets the policy.
+#[inline(never)]
 fn policy_line<S: KeeperSteps>(
     desk: &mut Desk,
     keeper: &mut Keeper,

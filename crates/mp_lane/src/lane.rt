@@ -328,6 +328,9 @@ impl Lane {
         ensures lane { self.new ≡ record (self.old) { desk = record (self.old.desk) { out = [] } } }
         ensures weight { weight_of self.new + length result.items ≡ weight_of self.old }
     {
+        if self.desk.out.is_empty() {
+            return Vec::new(self.alloc);
+        }
         let out = mem::replace(&mut self.desk.out, Roomy::make(self.alloc));
         out.into_vec()
     }

@@ -84,6 +84,7 @@ pub fn finish_line<S: Steps, G: Gate>(
 }
 
 /// Submits the list, in order.
+#[inline(never)]
 fn requeue_line<S: Steps, G: Gate>(
     desk: &mut Desk,
     steps: &mut S,
@@ -109,6 +110,7 @@ fn requeue_line<S: Steps, G: Gate>(
 }
 
 /// Changes the row of a controller's path.
+#[inline(never)]
 fn change_line<S: Steps, G: Gate>(
     desk: &mut Desk,
     steps: &mut S,
@@ -128,6 +130,7 @@ fn change_line<S: Steps, G: Gate>(
 }
 
 /// Reads a log page of a controller. A refused page is what the line says, and changes nothing.
+#[inline(never)]
 fn log_line<S: Steps, G: Gate>(
     alloc: Global,
     desk: &mut Desk,

@@ -1,55 +1,103 @@
 //! The text that tells of log pages.
-ghost use Rattle.std.specs.Prelude.{◌≡◌, ◌≤◌, ◌++◌, ℕ, length, map, string_bytes, codes, Ok, Err, All, OnOk, IfOk, IfErr};
+ghost use Rattle.std.specs.Prelude.{◌≡◌, ◌≤◌, ◌+◌, ◌++◌, ℕ, length, map, take, codes, Ok, Err, All, OnOk, IfOk, IfErr};
+ghost use Rattle.std.specs.Fmt.{decimal};
 ghost use Rattle.std.specs.List.{flat_map};
+ghost use Rattle.mp_words.specs.Names.{state_word};
 ghost use Rattle.mp_page.specs.Page.{page_in};
-ghost use Rattle.mp_page.specs.Text.{numbers_word, kind_word, offset_of, group_line, page_lines, refused_line, box_lines, lines_from, pages_text};
+ghost use Rattle.mp_page.specs.Text.{kind_word, offset_of, group_line, page_lines, refused_line, box_lines, lines_from, pages_text};
 
 use crate::page::{Group, Page, PageError};
 use crate::reading::read_page;
-use mp_words::names::{page_check_name, put_state};
+use mp_line::line::{place_byte, place_number, place_wide, place_word};
+use mp_line::list::{make_room, place_list, put_line};
+use mp_words::names::page_check_name;
+use mp_words::states::{CHANGE, INACCESSIBLE, NON_OPTIMIZED, OPTIMIZED, PERSISTENT_LOSS};
 use std::alloc::{AllocError, Global};
-use std::fmt::Write;
 
-fn put_numbers(text: &mut String, numbers: &[u32]) -> Result<(), AllocError>
-    ensures { OnOk result (string_bytes text.new ≡ string_bytes text.old ++ numbers_word numbers.now) }
+/// Places the name of an ANA state, `reserved-N` for a state N that the standard has no name for.
+fn place_state(line: &mut [u8; 128], at: usize, state: u8) -> usize
+    requires { at + 19 ≤ 128 }
+    ensures bytes { take result line.new ≡ take at line.old ++ state_word state }
+    ensures end { (at ≤ result) × (result ≤ at + 19) }
 {
-    let Some((first, rest)) = numbers.split_first() else {
-        return text.push_str("-");
-    };
-    write!(text, "{first}")?;
-    for n in rest {
-        write!(text, ",{n}")?;
+    match state {
+        OPTIMIZED => place_word(line, at, b"optimized"),
+        NON_OPTIMIZED => place_word(line, at, b"non-optimized"),
+        INACCESSIBLE => place_word(line, at, b"inaccessible"),
+        PERSISTENT_LOSS => place_word(line, at, b"persistent-loss"),
+        CHANGE => place_word(line, at, b"change"),
+        _ => {
+            let at = place_word(line, at, b"reserved-");
+            place_number(line, at, u32::from(state))
+        }
     }
-    Ok(())
 }
 
-fn put_group(text: &mut String, group: &Group) -> Result<(), AllocError>
-    ensures { OnOk result (string_bytes text.new ≡ string_bytes text.old ++ group_line group.now) }
+/// Places what stands before the namespaces in the line of a descriptor.
+fn place_head(line: &mut [u8; 128], group: &Group) -> usize
+    ensures bytes { take result line.new ≡ codes "group " ++ decimal group.now.id ++ codes " " ++ decimal group.now.changes ++ codes " " ++ state_word group.now.state ++ codes " " }
+    ensures end { result ≤ 128 }
 {
-    write!(text, "group {} {} ", group.id, group.changes)?;
-    put_state(text, group.state)?;
-    text.push_str(" ")?;
-    put_numbers(text, group.nsids.as_slice())?;
-    text.push_str("\n")
+    let at = place_word(line, 0, b"group ");
+    let at = place_number(line, at, group.id);
+    let at = place_byte(line, at, b' ');
+    let at = place_wide(line, at, group.changes);
+    let at = place_byte(line, at, b' ');
+    let at = place_state(line, at, group.state);
+    place_byte(line, at, b' ')
 }
 
-fn put_groups(text: &mut String, groups: &[Group]) -> Result<(), AllocError>
-    ensures { OnOk result (string_bytes text.new ≡ string_bytes text.old ++ flat_map group_line groups.now) }
+/// The line of a descriptor.
+fn put_group(text: &mut Vec<u8>, line: &mut [u8; 128], group: &Group) -> Result<(), AllocError>
+    ensures { OnOk result (text.new.items ≡ text.old.items ++ group_line group.now) }
+{
+    let at = place_head(line, group);
+    let at = place_list(text, line, at, group.nsids.as_slice())?;
+    let at = make_room(text, line, at)?;
+    put_line(text, line, at)
+}
+
+/// The lines of descriptors.
+fn put_groups(text: &mut Vec<u8>, line: &mut [u8; 128], groups: &[Group]) -> Result<(), AllocError>
+    ensures { OnOk result (text.new.items ≡ text.old.items ++ flat_map group_line groups.now) }
 {
     for group in groups {
-        put_group(text, group)?;
+        put_group(text, line, group)?;
     }
     Ok(())
 }
 
-fn put_page(text: &mut String, number: usize, size: usize, page: &Page) -> Result<(), AllocError>
-    ensures { OnOk result (string_bytes text.new ≡ string_bytes text.old ++ page_lines number size page.now) }
+/// Places the beginning of the line of a box.
+fn place_box(line: &mut [u8; 128], number: usize) -> usize
+    ensures bytes { take result line.new ≡ codes "page " ++ decimal number ++ codes " " }
+    ensures end { result ≤ 26 }
 {
-    let count = page.groups.len();
-    writeln!(text, "page {number} {size} {} {count}", page.changes)?;
-    put_groups(text, page.groups.as_slice())
+    let at = place_word(line, 0, b"page ");
+    let at = place_wide(line, at, number as u64);
+    place_byte(line, at, b' ')
 }
 
+/// The line of a page, and those of its descriptors.
+fn put_page(
+    text: &mut Vec<u8>,
+    line: &mut [u8; 128],
+    number: usize,
+    size: usize,
+    page: &Page,
+) -> Result<(), AllocError>
+    ensures { OnOk result (text.new.items ≡ text.old.items ++ page_lines number size page.now) }
+{
+    let at = place_box(line, number);
+    let at = place_wide(line, at, size as u64);
+    let at = place_byte(line, at, b' ');
+    let at = place_wide(line, at, page.changes);
+    let at = place_byte(line, at, b' ');
+    let at = place_wide(line, at, page.groups.len() as u64);
+    put_line(text, line, at)?;
+    put_groups(text, line, page.groups.as_slice())
+}
+
+/// The name of the check that fails.
 fn kind_name(refusal: PageError) -> &'static str
     ensures { result.now ≡ kind_word refusal }
 {
@@ -64,6 +112,7 @@ fn kind_name(refusal: PageError) -> &'static str
     }
 }
 
+/// Where it fails.
 fn offset(refusal: PageError) -> u32
     ensures { result ≡ offset_of refusal }
 {
@@ -78,45 +127,58 @@ fn offset(refusal: PageError) -> u32
     }
 }
 
-fn put_refusal(text: &mut String, number: usize, refusal: PageError) -> Result<(), AllocError>
-    ensures { OnOk result (string_bytes text.new ≡ string_bytes text.old ++ refused_line number refusal) }
+/// The line of a box whose page is refused.
+fn put_refusal(
+    text: &mut Vec<u8>,
+    line: &mut [u8; 128],
+    number: usize,
+    refusal: PageError,
+) -> Result<(), AllocError>
+    ensures { OnOk result (text.new.items ≡ text.old.items ++ refused_line number refusal) }
 {
-    let kind = kind_name(refusal);
-    let at = offset(refusal);
-    writeln!(text, "page {number} refused {kind} {at}")
+    let at = place_box(line, number);
+    let at = place_word(line, at, b"refused ");
+    let at = place_word(line, at, kind_name(refusal).as_bytes());
+    let at = place_byte(line, at, b' ');
+    let at = place_number(line, at, offset(refusal));
+    put_line(text, line, at)
 }
 
+/// What is told of a box.
 fn put_box(
-    text: &mut String,
+    text: &mut Vec<u8>,
+    line: &mut [u8; 128],
     alloc: Global,
     number: usize,
     bytes: &[u8],
     anagrpmax: u32,
 ) -> Result<(), PageError>
     requires { length bytes.now ≤ 65536 }
-    ensures told { OnOk result (string_bytes text.new ≡ string_bytes text.old ++ box_lines number (length bytes.now) (page_in anagrpmax bytes.now)) }
+    ensures told { OnOk result (text.new.items ≡ text.old.items ++ box_lines number (length bytes.now) (page_in anagrpmax bytes.now)) }
     ensures memory { IfErr result (λ e. e ≡ PageError.NoMemory) }
 {
     match read_page(alloc, bytes, anagrpmax) {
-        Ok(page) => put_page(text, number, bytes.len(), &page)?,
+        Ok(page) => put_page(text, line, number, bytes.len(), &page)?,
         Err(PageError::NoMemory) => return Err(PageError::NoMemory),
-        Err(refusal) => put_refusal(text, number, refusal)?,
+        Err(refusal) => put_refusal(text, line, number, refusal)?,
     }
     Ok(())
 }
 
+/// What is told of boxes.
 fn put_boxes(
-    text: &mut String,
+    text: &mut Vec<u8>,
     alloc: Global,
     boxes: &[Vec<u8>],
     anagrpmax: u32,
 ) -> Result<(), PageError>
     requires { All (λ page. length page.items ≤ 65536) boxes.now }
-    ensures told { OnOk result (string_bytes text.new ≡ string_bytes text.old ++ lines_from anagrpmax 0 (map (λ v. v.items) boxes.now)) }
+    ensures told { OnOk result (text.new.items ≡ text.old.items ++ lines_from anagrpmax 0 (map (λ v. v.items) boxes.now)) }
     ensures memory { IfErr result (λ e. e ≡ PageError.NoMemory) }
 {
+    let mut line = [0; 128];
     for (number, page) in boxes.iter().enumerate() {
-        put_box(text, alloc, number, page.as_slice(), anagrpmax)?;
+        put_box(text, &mut line, alloc, number, page.as_slice(), anagrpmax)?;
     }
     Ok(())
 }
@@ -137,8 +199,8 @@ pub fn page_text(alloc: Global, boxes: &[Vec<u8>], anagrpmax: u32) -> Result<Vec
     ensures text { IfOk result (λ v. v.items ≡ pages_text anagrpmax (map (λ v. v.items) boxes.now)) }
     ensures memory { IfErr result (λ e. e ≡ PageError.NoMemory) }
 {
-    let mut text = String::new(alloc);
+    let mut text = Vec::new(alloc);
     put_boxes(&mut text, alloc, boxes, anagrpmax)?;
-    text.push_str("end\n")?;
-    Ok(text.into_bytes())
+    text.extend_from_slice(b"end\n")?;
+    Ok(text)
 }

@@ -145,11 +145,11 @@ fn boxes_of_states(alloc: Global) -> Result<Vec<u8>, AllocError> {
     Ok(file)
 }
 
-/// What a file of boxes reads as: the text of its pages under the bound 4.
-fn file_told(alloc: Global, bytes: &[u8]) -> Result<String, AllocError> {
+/// What a file of boxes reads as: the text of its pages under a bound.
+fn file_told(alloc: Global, bytes: &[u8], anagrpmax: u32) -> Result<String, AllocError> {
     match read_boxes(alloc, bytes) {
         Ok(boxes) => {
-            let text = page_text(alloc, boxes.as_slice(), 4).map_err(|_| AllocError)?;
+            let text = page_text(alloc, boxes.as_slice(), anagrpmax).map_err(|_| AllocError)?;
             String::from_utf8(text).map_err(|_| AllocError)
         }
         Err(refusal) => format!(in alloc; "{refusal:?}"),
@@ -172,7 +172,56 @@ fn each_check_of_a_box(rt: HostRuntime) -> Result<(), Fail> {
         (states.as_slice(), STATES),
     ];
     for (bytes, wanted) in cases {
-        assert_eq!(rt; file_told(alloc, bytes)?.as_str(), wanted);
+        assert_eq!(rt; file_told(alloc, bytes, 4)?.as_str(), wanted);
+    }
+    Ok(())
+}
+
+/// A box with a page of the greatest numbers, whose one descriptor names as many namespaces as this.
+fn greatest(alloc: Global, count: u8) -> Result<Vec<u8>, AllocError> {
+    let mut bytes = Vec::new(alloc);
+    let size = 48 + 4 * u32::from(count);
+    bytes.extend_from_slice(&size.to_le_bytes())?;
+    bytes.extend_from_slice(&[0xff; 8])?;
+    bytes.extend_from_slice(&[1, 0, 0, 0, 0, 0, 0, 0, 0xff, 0xff, 0xff, 0xff])?;
+    bytes.extend_from_slice(&[count, 0, 0, 0])?;
+    bytes.extend_from_slice(&[0xff; 8])?;
+    bytes.extend_from_slice(&[14, 0, 0, 0, 0, 0, 0, 0, 0, 0, 0, 0, 0, 0, 0, 0])?;
+    for _ in 0..count {
+        bytes.extend_from_slice(&[0xff; 4])?;
+    }
+    Ok(bytes)
+}
+
+/// A line of the greatest numbers.
+const LINE: &str = "group 4294967295 18446744073709551615 reserved-14 ";
+
+#[test]
+fn lists_longer_than_a_line(rt: HostRuntime) -> Result<(), Fail> {
+    let alloc = rt.alloc();
+    let cases = [
+        (0, "48", "-"),
+        (1, "52", "4294967295"),
+        (
+            7,
+            "76",
+            "4294967295,4294967295,4294967295,4294967295,4294967295,4294967295,4294967295",
+        ),
+        (
+            8,
+            "80",
+            "4294967295,4294967295,4294967295,4294967295,4294967295,4294967295,4294967295,4294967295",
+        ),
+    ];
+    for (count, size, list) in cases {
+        let bytes = greatest(alloc, count)?;
+        let wanted = format!(in alloc;
+            "page 0 {size} 18446744073709551615 1\n{LINE}{list}\nend\n"
+        )?;
+        assert_eq!(rt;
+            file_told(alloc, bytes.as_slice(), u32::MAX)?.as_str(),
+            wanted.as_str()
+        );
     }
     Ok(())
 }

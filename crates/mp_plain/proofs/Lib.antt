@@ -1,4 +1,5 @@
 pub mod Words
+pub mod Rows
 pub mod Lanes
 pub mod LaneKinds
 pub mod KeeperKinds

@@ -11,7 +11,8 @@ use Rattle.mp_words.specs.SideWord.{side_of_word}
 use Rattle.mp_core.specs.Memory as memory
 use Rattle.mp_core.specs.Memory.{Memory}
 use Rattle.mp_core.specs.Unpacked.{unpacked, current_in_word}
-use Rattle.mp_plain.specs.Packed.{IsPacked}
+use Rattle.mp_plain.specs.declared.unpacked.Unpacked.{Unpacked}
+use Rattle.mp_plain.specs.Packed.{IsPacked, IsUnpacked}
 
 -- a test that gave something was passed
 passed : {X : Type 0} → (b : Bool) (x y : X) → (if b then None else Some x) ≡ Some y → (b ≡ false) × (x ≡ y)
@@ -41,11 +42,27 @@ put_row_is w place slot word row at is = λ i. record (unpacked w) { rows = (map
 pub put_row_packed : (w : Words) (place word : ℕ) (row : Row) → row_of_word word ≡ Some row → IsPacked w → IsPacked (record w { rows = set w.rows place word })
 put_row_packed w place word row is p = record { rows = λ s low. set_all (λ x. is_no_row x ≡ false) w.rows place s word (is_row word row is).0 (p.rows s low); order = p.order }
 
+pub put_row_same : (w : Words) (u : Unpacked) (place word : ℕ) (row : Row) → row_of_word word ≡ Some row → IsUnpacked w u → IsUnpacked (record w { rows = set w.rows place word }) (record u { rows = set u.rows place row })
+put_row_same w u place word row is s = record {
+  same_rows = ap (λ (rs : List Row). set rs place row) s.same_rows ∙ sym (map-set row_in w.rows place word ∙ ap (set (map row_in w.rows) place) (is_row word row is).1);
+  same_order = s.same_order;
+}
+
 pub put_order_is : (w : Words) (word : ℕ) (order : Order) → order_of_word word ≡ Some order → unpacked (record w { order = word }) ≡ memory.order_in order (unpacked w)
 put_order_is w word order is = λ i. record (unpacked w) { order = (is_order word order is).1 i }
 
 pub put_order_packed : (w : Words) (word : ℕ) (order : Order) → order_of_word word ≡ Some order → IsPacked w → IsPacked (record w { order = word })
 put_order_packed w word order is p = record { rows = p.rows; order = (is_order word order is).0 }
+
+pub put_order_same : (w : Words) (u : Unpacked) (word : ℕ) (order : Order) → order_of_word word ≡ Some order → IsUnpacked w u → IsUnpacked (record w { order = word }) (record u { order = order })
+put_order_same w u word order is s = record { same_rows = s.same_rows; same_order = sym (is_order word order is).1 }
+
+-- a write of neither a row nor the list of paths leaves what these say
+pub still_same : (w n : Words) (u : Unpacked) (m : Memory) → unpacked n ≡ m → m.rows ≡ (unpacked w).rows → m.order ≡ (unpacked w).order → IsUnpacked w u → IsUnpacked n u
+still_same w n u m is rows order s = record {
+  same_rows = s.same_rows ∙ sym rows ∙ ap (λ (x : Memory). x.rows) (sym is);
+  same_order = s.same_order ∙ sym order ∙ ap (λ (x : Memory). x.order) (sym is);
+}
 
 -- the word of a slot says the slot
 pub some_word : (slot word : ℕ) → word ≡ slot + 1 → current_in_word word ≡ Some slot

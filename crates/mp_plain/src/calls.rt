@@ -10,6 +10,7 @@ ghost use Rattle.mp_plain.specs.Told.{told_core, core_begun};
 
 use crate::ledger::{Ledger, Opening};
 use crate::plain::{Plain, PlainError};
+use crate::unpacked::Unpacked;
 use mp_words::numbers::LaneId;
 use mp_words::words::Words;
 use std::alloc::Global;
@@ -36,6 +37,7 @@ impl Plain {
         };
         Ok(Plain {
             words: *words,
+            said: Unpacked::of_words(words),
             lane: first_lane(),
             left: [allowance; 17],
             ledger,

@@ -1,12 +1,13 @@
-//! The words, one at a time: unpacked as they are read, and packed as they are written.
+//! The words, one at a time: packed as they are written, the rows and the list of paths beside what they say.
 
 ghost use Rattle.std.specs.Prelude.{◌≡◌, ◌<◌, ◌^◌, ℕ, Some, None, slice_set};
 ghost use Rattle.mp_words.specs.Facts.{IsRow, IsOrder};
 ghost use Rattle.mp_words.specs.OrderWord.{FitsOrderWord};
 ghost use Rattle.mp_core.specs.Memory.{side_at, row_at, depth_at, current_at, row_in, order_in, current_in};
 ghost use Rattle.mp_core.specs.Unpacked.{unpacked, current_in_word};
-ghost use Rattle.mp_plain.specs.Packed.{IsPacked};
+ghost use Rattle.mp_plain.specs.Packed.{IsPacked, IsUnpacked};
 
+use crate::unpacked::Unpacked;
 use mp_words::numbers::{Node, Slot};
 use mp_words::order::Order;
 use mp_words::row::Row;
@@ -21,21 +22,21 @@ pub(crate) fn side_in(words: &Words, side: u8) -> Side
 }
 
 /// The row of a slot.
-pub(crate) fn row_in(words: &Words, slot: Slot) -> Row
-    requires { IsPacked words.now }
-    ensures row { result ≡ row_at (unpacked words.now) slot }
+pub(crate) fn row_in(_words: &Words, said: &Unpacked, slot: Slot) -> Row
+    requires { IsUnpacked _words.now said.now }
+    ensures row { result ≡ row_at (unpacked _words.now) slot }
     ensures below { slot < 15 }
 {
-    Row::unpack(words.rows[slot.get() as usize]).unwrap()
+    said.rows[slot.get() as usize]
 }
 
 /// The list of paths.
-pub(crate) fn order_in(words: &Words) -> Order
-    requires { IsPacked words.now }
-    ensures { result ≡ (unpacked words.now).order }
+pub(crate) fn order_in(_words: &Words, said: &Unpacked) -> Order
+    requires { IsUnpacked _words.now said.now }
+    ensures { result ≡ (unpacked _words.now).order }
 {
     let _: Option<Slot> = None;
-    Order::unpack(words.order).unwrap()
+    said.order
 }
 
 /// The depth of a slot.
@@ -70,23 +71,29 @@ pub(crate) fn put_side(words: &mut Words, side: u8, to: Side)
 }
 
 /// Stores the row of a slot.
-pub(crate) fn put_row(words: &mut Words, slot: Slot, row: &Row)
+pub(crate) fn put_row(words: &mut Words, said: &mut Unpacked, slot: Slot, row: &Row)
     requires { IsRow row.now }
     ensures words { unpacked words.new ≡ row_in slot row.now (unpacked words.old) }
     ensures packed { IsPacked words.old → IsPacked words.new }
+    ensures same { IsUnpacked words.old said.old → IsUnpacked words.new said.new }
 {
-    words.rows[slot.get() as usize] = row.pack();
+    let place = slot.get() as usize;
+    words.rows[place] = row.pack();
+    said.rows[place] = *row;
 }
 
 /// Stores the list of paths.
-pub(crate) fn put_order(words: &mut Words, order: &Order)
+pub(crate) fn put_order(words: &mut Words, said: &mut Unpacked, order: &Order)
     requires order { IsOrder order.now }
     requires version { order.now.version < 2 ^ 30 }
     ensures fits { FitsOrderWord order.now }
     ensures words { unpacked words.new ≡ order_in order.now (unpacked words.old) }
     ensures packed { IsPacked words.old → IsPacked words.new }
+    ensures same { IsUnpacked words.old said.old → IsUnpacked words.new said.new }
 {
+    let _: Option<Slot> = None;
     words.order = order.pack();
+    said.order = *order;
 }
 
 /// Stores the depth of a slot.

@@ -11,3 +11,4 @@ pub mod steps;
 #[cfg(test)]
 mod tests;
 pub mod turns;
+pub mod unpacked;

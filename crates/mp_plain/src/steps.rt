@@ -8,7 +8,7 @@ ghost use Rattle.mp_core.specs.Seats.{view_of};
 ghost use Rattle.mp_core.specs.Unpacked.{unpacked};
 ghost use Rattle.mp_core.specs.Views as view;
 ghost use Rattle.mp_core.specs.Views.{opened};
-ghost use Rattle.mp_plain.specs.Packed.{IsPacked};
+ghost use Rattle.mp_plain.specs.Packed.{IsPacked, IsUnpacked};
 ghost use Rattle.mp_plain.specs.Lanes.{lane_turn, keeper_turn};
 
 use crate::cells::{
@@ -23,6 +23,7 @@ use crate::turns::{
     turn_cleared, turn_entered, turn_finished, turn_flown, turn_landed, turn_noted,
     turn_order_read, turn_passed, turn_row_changed, turn_row_moved, turn_row_read,
 };
+use crate::unpacked::Unpacked;
 use mp_core::steps::Steps;
 use mp_core::view::{RowEnd, Section};
 use mp_words::entry::RowEntry;
@@ -35,66 +36,56 @@ use mp_words::row::Row;
 use mp_words::words::{Side, Words};
 use std::marker::Brand;
 
-/// Enters a side.
-fn enter(words: &mut Words, ledger: &mut Ledger, lane: LaneId, side: u8) -> Section
+/// Counts one more in a side: the entries before it are its ticket.
+fn count_in(words: &mut Words, side: u8) -> u32
     requires side { side < 2 }
     requires entries { (side_at (unpacked words.old) side).entries + 1 < 2 ^ 32 }
     requires inside { (side_at (unpacked words.old) side).inside + 1 < 2 ^ 32 }
-    ensures section { result ≡ opened lane side (side_at (unpacked words.old) side).entries }
+    ensures ticket { result ≡ (side_at (unpacked words.old) side).entries }
     ensures words { unpacked words.new ≡ entered_in side (unpacked words.old) }
     ensures packed { IsPacked words.old → IsPacked words.new }
-    ensures home { ledger.new.seat.table_id ≡ ledger.old.seat.table_id }
-    ensures view { ledger.new.seat.me.0 ≡ lane_turn lane (view.entered result) ledger.old.seat.me.0 }
 {
     let found = side_in(words, side);
-    let section = Section {
-        note: blank(lane, side, found.entries),
-        sent: false,
-        tried: false,
-    };
     let to = Side {
         entries: found.entries + 1,
         inside: found.inside + 1,
     };
     put_side(words, side, to);
-    turn_entered::<Brand>(ledger, lane, &section);
-    section
+    found.entries
 }
 
-/// Leaves the side of a section.
-fn leave(words: &mut Words, ledger: &mut Ledger, lane: LaneId, section: Section) -> Note
-    requires side { section.note.side < 2 }
-    requires inside { 1 ≤ (side_at (unpacked words.old) section.note.side).inside }
-    ensures note { result ≡ section.note }
-    ensures words { unpacked words.new ≡ left_in section.note.side (unpacked words.old) }
+/// Counts one less in a side.
+fn count_out(words: &mut Words, side: u8)
+    requires side { side < 2 }
+    requires inside { 1 ≤ (side_at (unpacked words.old) side).inside }
+    ensures words { unpacked words.new ≡ left_in side (unpacked words.old) }
     ensures packed { IsPacked words.old → IsPacked words.new }
-    ensures home { ledger.new.seat.table_id ≡ ledger.old.seat.table_id }
-    ensures view { ledger.new.seat.me.0 ≡ lane_turn lane (view.finished section) ledger.old.seat.me.0 }
 {
-    turn_finished::<Brand>(ledger, lane, &section);
-    let Section {
-        note,
-        sent: _,
-        tried: _,
-    } = section;
-    let found = side_in(words, note.side);
+    let found = side_in(words, side);
     let to = Side {
         entries: found.entries,
         inside: found.inside - 1,
     };
-    put_side(words, note.side, to);
-    note
+    put_side(words, side, to);
 }
 
 /// Stores the row of an entry.
-fn change(words: &mut Words, ledger: &mut Ledger, lane: LaneId, section: &Section, entry: &RowEntry)
+fn change(
+    words: &mut Words,
+    said: &mut Unpacked,
+    ledger: &mut Ledger,
+    lane: LaneId,
+    section: &Section,
+    entry: &RowEntry,
+)
     requires { IsRow entry.now.row }
     ensures words { unpacked words.new ≡ row_in entry.now.slot entry.now.row (unpacked words.old) }
     ensures packed { IsPacked words.old → IsPacked words.new }
+    ensures same { IsUnpacked words.old said.old → IsUnpacked words.new said.new }
     ensures home { ledger.new.seat.table_id ≡ ledger.old.seat.table_id }
     ensures view { ledger.new.seat.me.0 ≡ lane_turn lane (view.row_changed entry.now section.now) ledger.old.seat.me.0 }
 {
-    put_row(words, entry.slot, &entry.row);
+    put_row(words, said, entry.slot, &entry.row);
     turn_row_changed::<Brand>(ledger, lane, section, entry);
 }
 
@@ -201,36 +192,51 @@ impl Steps for Plain {
     }
 
     fn enter(&mut self, side: u8) -> Section {
-        let section = enter(&mut self.words, &mut self.ledger, self.lane, side);
+        let ticket = count_in(&mut self.words, side);
         self.left[self.lane.get() as usize] -= 1;
+        let section = Section {
+            note: blank(self.lane, side, ticket),
+            sent: false,
+            tried: false,
+        };
+        turn_entered::<Brand>(&mut self.ledger, self.lane, &section);
         section
     }
 
     fn leave(&mut self, section: Section) -> Note {
-        leave(&mut self.words, &mut self.ledger, self.lane, section)
+        turn_finished::<Brand>(&mut self.ledger, self.lane, &section);
+        let Section {
+            note,
+            sent: _,
+            tried: _,
+        } = section;
+        count_out(&mut self.words, note.side);
+        note
     }
 
     fn load_order(&mut self, section: &mut Section) -> Order {
-        let order = order_in(&self.words);
+        let order = order_in(&self.words, &self.said);
         note_order(&mut section.note, &order);
         turn_order_read::<Brand>(&mut self.ledger, self.lane, section, &order);
         order
     }
 
     fn load_row(&mut self, section: &mut Section, slot: Slot) -> Row {
-        let row = row_in(&self.words, slot);
+        let row = row_in(&self.words, &self.said, slot);
         note_row(&mut section.note, slot, &row);
         turn_row_read::<Brand>(&mut self.ledger, self.lane, section, slot, &row);
         row
     }
 
+    #[inline(never)]
     fn flight_row(&mut self, section: &mut Section, flight: &Flight) -> Row {
-        let row = row_in(&self.words, flight.slot);
+        let row = row_in(&self.words, &self.said, flight.slot);
         note_flight(&mut section.note, flight.slot, &row);
         turn_row_read::<Brand>(&mut self.ledger, self.lane, section, flight.slot, &row);
         row
     }
 
+    #[inline(never)]
     fn change_row(
         &mut self,
         section: &mut Section,
@@ -239,7 +245,7 @@ impl Steps for Plain {
         op: Op,
         by: Maker,
     ) -> RowEnd {
-        let row = row_in(&self.words, slot);
+        let row = row_in(&self.words, &self.said, slot);
         section.tried = true;
         if row.version != old.version {
             turn_row_moved::<Brand>(&mut self.ledger, self.lane, section, slot, &row);
@@ -248,6 +254,7 @@ impl Steps for Plain {
         let entry = entry_by(slot, &row, &op, &by);
         change(
             &mut self.words,
+            &mut self.said,
             &mut self.ledger,
             self.lane,
             section,
@@ -304,6 +311,7 @@ impl Steps for Plain {
         );
     }
 
+    #[inline(never)]
     fn clear_current(&mut self, node: Node, slot: Slot) {
         clear(&mut self.words, &mut self.ledger, self.lane, node, slot);
     }

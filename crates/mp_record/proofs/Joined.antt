@@ -5,7 +5,8 @@ use Rattle.std.proofs.lemmas.List.{take_more, take_all, length-take-le}
 use Rattle.std.proofs.lemmas.List.Concat.{flat_map-append}
 use Rattle.std.proofs.lemmas.List.Elements.{filter_map-append}
 use Rattle.std.proofs.lemmas.Slice.Zip.{get_or-zip, length-zip}
-use Rattle.mp_record.specs.Words.{joined, list_word, comma, dash}
+use Rattle.mp_line.specs.Words.{joined, list_word}
+use Rattle.mp_record.specs.Words.{comma, dash}
 
 -- the list has an item
 abbrev pub has_items : {X : Type 0} → List X → Bool

@@ -2,4 +2,5 @@ pub mod Joined
 pub mod Trails
 pub mod Noted
 pub mod Apart
-pub mod Decimals
+pub mod PlainIn
+pub mod Packing

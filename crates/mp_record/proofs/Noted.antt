@@ -11,7 +11,7 @@ use Rattle.mp_topology.specs.declared.topology.Topology.{Topology}
 use Rattle.mp_record.specs.declared.run.Run.{Run}
 use Rattle.mp_record.specs.NotesView.{NotesView}
 use Rattle.mp_record.specs.RunView.{view_of, noted, events_of, is_plain, is_order}
-use Rattle.mp_record.specs.Words.{one_number}
+use Rattle.mp_line.specs.Words.{one_number}
 use Rattle.mp_record.specs.EventText.{event_line, events_text}
 use Rattle.mp_record.specs.RunText.{run_text, row_line, rows_text, is_written, keep_line, lane_text, lane_word, request_line}
 use Rattle.mp_record.specs.NotedText.{written_rows, noted_lane, noted_text}

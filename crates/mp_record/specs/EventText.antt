@@ -9,7 +9,8 @@ use Rattle.mp_record.specs.declared.event.Event.{Event}
 use Rattle.mp_record.specs.declared.event.Event.TheVariants.{Sec, At, Try, Fin}
 use Rattle.mp_record.specs.declared.event.Said.{Said}
 use Rattle.mp_record.specs.declared.event.Said.TheVariants.{Submit, Finish, Requeue, Changed, Refused, NotArmed, NoPath, Page, Added, Already, NoSlot, OrderFull, Marked, Idle, Freed, AgainSection, AgainDepth, Policy}
-use Rattle.mp_record.specs.Words.{one_number, two_numbers, three_numbers, pair_word, list_word, grace_word}
+use Rattle.mp_line.specs.Words.{one_number, two_numbers, three_numbers, pair_word, list_word}
+use Rattle.mp_record.specs.Words.{grace_word}
 use Rattle.mp_words.specs.Names.{status_word, cstate_word, page_check_word}
 use Rattle.mp_record.specs.NoteText.{section_line}
 

@@ -6,7 +6,8 @@ use Rattle.mp_words.specs.declared.row.Row.{Row}
 use Rattle.mp_words.specs.declared.order.Order.{Order}
 use Rattle.mp_words.specs.declared.entry.Closing.{Closing}
 use Rattle.mp_words.specs.declared.note.Note.{Note}
-use Rattle.mp_record.specs.Words.{one_number, two_numbers, three_numbers, pair_word, list_word, grace_word, maker_word}
+use Rattle.mp_line.specs.Words.{one_number, two_numbers, three_numbers, pair_word, list_word}
+use Rattle.mp_record.specs.Words.{grace_word, maker_word}
 
 -- the version of the order that was read, or a dash
 abbrev pub order_word : Option Order → List ℕ

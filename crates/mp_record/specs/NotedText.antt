@@ -11,7 +11,7 @@ use Rattle.mp_record.specs.declared.event.Event.{Event}
 use Rattle.mp_record.specs.declared.run.Run.{Run}
 use Rattle.mp_record.specs.NotesView.{NotesView}
 use Rattle.mp_record.specs.RunView.{is_plain, is_order}
-use Rattle.mp_record.specs.Words.{one_number}
+use Rattle.mp_line.specs.Words.{one_number}
 use Rattle.mp_record.specs.EventText.{event_line}
 use Rattle.mp_record.specs.RunText.{head_line, row_line, is_written, keep_line, lane_word, request_line}
 

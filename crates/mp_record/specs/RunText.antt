@@ -16,7 +16,8 @@ use Rattle.mp_words.specs.Request.{Tried, Asked, attempts_of, outcome_of}
 use Rattle.mp_topology.specs.declared.topology.Topology.{Topology}
 use Rattle.mp_record.specs.declared.event.Event.{Event}
 use Rattle.mp_record.specs.RunView.{RunView}
-use Rattle.mp_record.specs.Words.{one_number, two_numbers, list_word, maker_word, path_word}
+use Rattle.mp_line.specs.Words.{one_number, two_numbers, list_word}
+use Rattle.mp_record.specs.Words.{maker_word, path_word}
 use Rattle.mp_words.specs.Names.{status_word, policy_word}
 use Rattle.mp_topology.specs.Names.{name_of}
 use Rattle.mp_record.specs.NoteText.{closing_line}

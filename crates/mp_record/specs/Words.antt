@@ -1,6 +1,5 @@
--- How the run text writes numbers, lists, and what a row, an order and an entry have.
-use Rattle.std.specs.Prelude.{ℕ, Bool, ◌||◌, List, [], ◌∷◌, ◌++◌, codes, if◌then◌else◌}
-use Rattle.std.specs.List.{flat_map}
+-- How the run text writes what a row, an order and an entry have.
+use Rattle.std.specs.Prelude.{ℕ, Bool, ◌||◌, List, [], ◌++◌, codes, if◌then◌else◌}
 use Rattle.std.specs.Fmt.{decimal}
 use Rattle.mp_words.specs.declared.row.Row.{Row}
 use Rattle.mp_words.specs.declared.entry.Grace.{Grace}
@@ -12,22 +11,6 @@ use Rattle.mp_words.specs.Row.{is_given}
 use Rattle.mp_topology.specs.Names.{name_of}
 use Rattle.mp_topology.specs.declared.topology.Topology.{Topology}
 
--- a word and a number
-abbrev pub one_number : List ℕ → ℕ → List ℕ
-one_number word a = word ++ codes " " ++ decimal a
-
--- a word and two numbers
-abbrev pub two_numbers : List ℕ → ℕ → ℕ → List ℕ
-two_numbers word a b = word ++ codes " " ++ decimal a ++ codes " " ++ decimal b
-
--- a word and three numbers
-abbrev pub three_numbers : List ℕ → ℕ → ℕ → ℕ → List ℕ
-three_numbers word a b c = word ++ codes " " ++ decimal a ++ codes " " ++ decimal b ++ codes " " ++ decimal c
-
--- two numbers with a colon between them
-abbrev pub pair_word : ℕ → ℕ → List ℕ
-pair_word a b = decimal a ++ codes ":" ++ decimal b
-
 -- the comma before a further item of a list
 abbrev pub comma : Bool → List ℕ
 comma further = if further then codes "," else []
@@ -35,20 +18,6 @@ comma further = if further then codes "," else []
 -- the dash of a list without items
 abbrev pub dash : Bool → List ℕ
 dash further = if further then [] else codes "-"
-
--- the words of these, joined by commas
-abbrev pub joined : {X : Type 0} → (X → List ℕ) → List X → List ℕ
-joined word [] = []
-joined word (x ∷ xs) = word x ++ flat_map (λ other. codes "," ++ word other) xs
-
--- a text, or a dash for an empty list
-abbrev pub or_dash : {X : Type 0} → List X → List ℕ → List ℕ
-or_dash [] text = codes "-"
-or_dash (x ∷ xs) text = text
-
--- the words of these, joined by commas, or a dash where there is none
-abbrev pub list_word : {X : Type 0} → (X → List ℕ) → List X → List ℕ
-list_word word xs = or_dash xs (joined word xs)
 
 -- the letter of a grace period
 abbrev pub grace_word : Grace → List ℕ

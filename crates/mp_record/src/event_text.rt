@@ -5,12 +5,12 @@ ghost use Rattle.mp_record.specs.EventText.{said_word, end_word, back_word, even
 ghost use Rattle.mp_record.specs.declared.event.Event.TheVariants as an;
 
 use crate::event::{Event, Said};
-use crate::line::{
+use crate::note_text::put_section;
+use crate::words::grace_name;
+use mp_line::line::{
     place_byte, place_number, place_numbers, place_one, place_pair, place_statuses, place_three,
     place_two, place_word,
 };
-use crate::note_text::put_section;
-use crate::words::grace_name;
 use mp_words::names::{cstate_name, page_check_name};
 use mp_words::numbers::ReqId;
 use mp_words::trying::{Back, TryEnd};

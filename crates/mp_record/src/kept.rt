@@ -1,8 +1,8 @@
 //! How an event is kept.
 
-ghost use Rattle.std.specs.Prelude.{◌≡◌, IfSome, length};
+ghost use Rattle.std.specs.Prelude.{ℕ, ◌≡◌, ◌≤◌, IfSome, length};
 ghost use Rattle.mp_words.specs.Like.{Tells};
-ghost use Rattle.mp_record.specs.Kept.{retold, told, IsBelow};
+ghost use Rattle.mp_record.specs.Kept.{at_current, retold, told, IsBelow, IsInOrder};
 ghost use Rattle.mp_record.specs.declared.event.Event.TheVariants as an;
 
 use crate::event::{Event, Said};
@@ -13,14 +13,16 @@ use mp_words::trying::TryEnd;
 
 /// An event in few bytes, or the place of one that stands apart, whole.
 ///
-/// `Section` is a section that differs from the one that stands apart at the place `like` in its ticket at most,
-/// `Done` is the end of a flight that didn't come back, and `Unset` that of one that came back without pending set.
+/// `Section` is a section that differs from the one that stands apart at the place `like` in its ticket and the current
+/// path that it read at most, `Done` is the end of a flight that didn't come back, and `Unset` that of one that came
+/// back without pending set. The fields stand in an order that leaves no gap between them.
 #[derive(Clone, Copy)]
 pub(crate) enum Kept {
-    Apart(usize),
+    Apart(u32),
     Section {
-        like: usize,
+        like: u32,
         ticket: u32,
+        current: Option<Option<Slot>>,
     },
     At {
         line: u32,
@@ -32,26 +34,38 @@ pub(crate) enum Kept {
         end: TryEnd,
     },
     Done {
+        count: u8,
         req: ReqId,
         hop: u32,
         statuses: [u16; 6],
-        count: u8,
     },
     Unset {
+        count: u8,
         req: ReqId,
         hop: u32,
         statuses: [u16; 6],
-        count: u8,
     },
 }
 
-/// The event with another ticket, where it is a section.
-pub(crate) fn retold(event: &Event, ticket: u32) -> Event
-    ensures { result ≡ retold ticket event.now }
+// A run keeps one for each event.
+const _: () = prove!(size_of::<Kept>() == 20);
+
+/// The note with another current path.
+fn at_current(note: &Note, current: &Option<Option<Slot>>) -> Note
+    ensures { result ≡ at_current current.now note.now }
+{
+    let mut note = *note;
+    note.current = *current;
+    note
+}
+
+/// The event with another ticket and another current path, where it is a section.
+pub(crate) fn retold(event: &Event, ticket: u32, current: &Option<Option<Slot>>) -> Event
+    ensures { result ≡ retold ticket current.now event.now }
 {
     match event {
         Event::Sec { note, moved } => {
-            let mut note = *note;
+            let mut note = at_current(note, current);
             note.ticket = ticket;
             Event::Sec {
                 note,
@@ -68,18 +82,23 @@ pub(crate) fn kept_section(
     moved: &Option<(Slot, u32)>,
     apart: &[Event],
 ) -> Option<Kept>
+    requires { length apart.now ≤ 4294967296 }
     ensures told { IfSome result (λ k. told apart.now k ≡ an.Sec note.now moved.now) }
     ensures below { IfSome result (λ k. IsBelow (length apart.now) k) }
+    ensures order { IfSome result (λ k. (m : ℕ) → IsInOrder apart.now m k) }
 {
     let like = apart.len().checked_sub(1)?;
     match &apart[like] {
         Event::Sec {
             note: last,
             moved: met,
-        } if is_like(last, note) && is_same_version(met, moved) => Some(Kept::Section {
-            like,
-            ticket: note.ticket,
-        }),
+        } if is_like(&at_current(last, &note.current), note) && is_same_version(met, moved) => {
+            Some(Kept::Section {
+                like: like as u32,
+                ticket: note.ticket,
+                current: note.current,
+            })
+        }
         _ => None,
     }
 }

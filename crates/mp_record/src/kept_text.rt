@@ -10,6 +10,7 @@ use crate::event::Event;
 use crate::event_text::{put_at, put_event, put_fin, put_try};
 use crate::kept::{Kept, retold};
 use crate::plain::is_plain;
+use mp_words::numbers::Slot;
 use mp_words::trying::Back;
 use std::alloc::AllocError;
 
@@ -35,18 +36,20 @@ fn put_noted(
     Ok(())
 }
 
-/// The line of an event with another ticket, where it is a section; a section has one only with the notes.
+/// The line of an event with another ticket and another current path, where it is a section; a section has one only
+/// with the notes.
 fn put_retold(
     text: &mut Vec<u8>,
     line: &mut [u8; 128],
     notes: bool,
     event: &Event,
     ticket: u32,
+    current: &Option<Option<Slot>>,
 ) -> Result<(), AllocError>
-    ensures { OnOk result (text.new.items ≡ text.old.items ++ noted_event notes (retold ticket event.now)) }
+    ensures { OnOk result (text.new.items ≡ text.old.items ++ noted_event notes (retold ticket current.now event.now)) }
 {
     if has_line(notes, event) {
-        return put_event(text, line, &retold(event, ticket));
+        return put_event(text, line, &retold(event, ticket, current));
     }
     Ok(())
 }
@@ -63,8 +66,12 @@ fn put_kept(
     ensures { OnOk result (text.new.items ≡ text.old.items ++ noted_event notes (told apart.now kept.now)) }
 {
     match kept {
-        Kept::Apart(place) => put_noted(text, line, notes, &apart[*place]),
-        Kept::Section { like, ticket } => put_retold(text, line, notes, &apart[*like], *ticket),
+        Kept::Apart(place) => put_noted(text, line, notes, &apart[*place as usize]),
+        Kept::Section {
+            like,
+            ticket,
+            current,
+        } => put_retold(text, line, notes, &apart[*like as usize], *ticket, current),
         Kept::At { line: number, said } => put_at(text, line, *number, *said),
         Kept::Try { req, hop, end } => put_try(text, line, *req, *hop, *end),
         Kept::Done {

@@ -2,13 +2,13 @@
 
 ghost use Rattle.std.specs.Prelude.{◌≡◌, ◌++◌, OnOk, zip, filter_map};
 ghost use Rattle.std.specs.List.{items_where_true};
-ghost use Rattle.mp_record.specs.Words.{list_word};
+ghost use Rattle.mp_line.specs.Words.{list_word};
 ghost use Rattle.mp_record.specs.NoteText.{order_word, row_word, current_word, depth_word, loaded_depth, moved_word, read_words, section_line, closing_line};
 
-use crate::digits::put_number;
 use crate::words::{
     grace_name, put_comma, put_dash, put_maker, put_one, put_pair, put_three, put_two,
 };
+use mp_line::digits::put_number;
 use mp_words::entry::Closing;
 use mp_words::note::Note;
 use mp_words::numbers::Slot;

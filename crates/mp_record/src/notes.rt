@@ -1,6 +1,6 @@
 //! The events of one lane.
 
-ghost use Rattle.std.specs.Prelude.{ℕ, ◌≡◌, ◌≤◌, ◌<◌, ◌+◌, List, ◌++◌, ◌∷◌, [], Some, IfOk, IfSome, OnOk, OnErr, filter, length, slice_get, vec_len, vec_capacity};
+ghost use Rattle.std.specs.Prelude.{ℕ, ◌≡◌, ◌≤◌, ◌<◌, ◌+◌, List, ◌++◌, ◌∷◌, [], Some, IfOk, IfSome, OnOk, OnErr, filter, length, slice_get, vec_len};
 ghost use Rattle.mp_record.specs.RunView.{is_plain};
 ghost use Rattle.mp_record.specs.NotedText.{noted_events};
 ghost use Rattle.mp_record.specs.Kept.{told, IsBelow};
@@ -9,7 +9,9 @@ ghost use Rattle.mp_record.specs.declared.event.Event.TheVariants as event;
 use crate::event::{Event, Said};
 use crate::kept::{Kept, kept_section, retold};
 use crate::kept_text::put_each;
-use crate::plain::plain_of;
+use crate::packed::pack;
+use crate::plain::keep_plain;
+use crate::room::reserve_eighth;
 use mp_words::entry::RowEntry;
 use mp_words::note::Note;
 use mp_words::numbers::{ReqId, Slot};
@@ -32,6 +34,9 @@ pub enum NoteError {
 /// For how many events room is made at least, so that most calls for room need none.
 const ROOM: usize = 16;
 
+/// How many events can stand apart at most: the place of one is kept in four bytes.
+const PLACES: usize = 4294967296;
+
 /// The events of one lane, in order, and room for more of them.
 ///
 /// Most are small, and kept in place. The end of a flight that came back with pending set stands apart, and so does a
@@ -45,14 +50,14 @@ pub struct LaneNotes {
 
 impl Model for LaneNotes {
     ghost use Rattle.std.specs.Prelude.{vec_len, vec_capacity, map, ◌+◌, ◌≤◌};
-    ghost use Rattle.mp_record.specs.Kept.{told, AreBelow};
+    ghost use Rattle.mp_record.specs.Kept.{told, AreBelow, AreInOrder};
     ghost use Rattle.mp_record.specs.NotesView.{NotesView};
 
     ghost Value = { NotesView };
 
     ghost view = { λ n. record { events = map (told n.apart.items) n.kept.items; spare = n.room } };
 
-    ghost invariant = { λ n. AreBelow (vec_len n.apart) n.kept.items × (vec_len n.kept + n.room ≤ vec_capacity n.kept) × (vec_len n.apart + n.room ≤ vec_capacity n.apart) };
+    ghost invariant = { λ n. AreBelow (vec_len n.apart) n.kept.items × AreInOrder n.apart.items 0 n.kept.items × (vec_len n.kept + n.room ≤ vec_capacity n.kept) × (vec_len n.apart + n.room ≤ vec_capacity n.apart) × (vec_len n.apart + n.room ≤ 4294967296) };
 }
 
 impl LaneNotes {
@@ -71,7 +76,8 @@ impl LaneNotes {
     ///
     /// # Errors
     ///
-    /// `NoMemory` where memory runs out, and never where there was room. The events are as they were.
+    /// `NoMemory` where memory runs out, or the places of events that stand apart do, and never where there was room.
+    /// The events are as they were.
     pub fn reserve(&mut self, more: usize) -> Result<(), NoteError>
         ensures room { OnOk result (more ≤ self.new.spare) }
         ensures kept { self.old.spare ≤ self.new.spare }
@@ -82,8 +88,11 @@ impl LaneNotes {
             return Ok(());
         }
         let room = if more < ROOM { ROOM } else { more };
-        self.kept.reserve(room).map_err(|_| NoteError::NoMemory)?;
-        reserve_apart(&mut self.apart, room)?;
+        if PLACES - self.apart.len() < room {
+            return Err(NoteError::NoMemory);
+        }
+        reserve_eighth(&mut self.kept, room).map_err(|_| NoteError::NoMemory)?;
+        reserve_eighth(&mut self.apart, room).map_err(|_| NoteError::NoMemory)?;
         self.room = room;
         Ok(())
     }
@@ -222,7 +231,7 @@ impl LaneNotes {
         self.room -= 1;
         let place = self.apart.len();
         self.apart.push_reserved(event);
-        self.kept.push_reserved(Kept::Apart(place));
+        self.kept.push_reserved(Kept::Apart(place as u32));
     }
 
     /// The number of events.
@@ -238,8 +247,12 @@ impl LaneNotes {
         ensures { slice_get self.now.events place ≡ Some result }
     {
         match self.kept[place] {
-            Kept::Apart(place) => self.apart[place],
-            Kept::Section { like, ticket } => retold(&self.apart[like], ticket),
+            Kept::Apart(place) => self.apart[place as usize],
+            Kept::Section {
+                like,
+                ticket,
+                current,
+            } => retold(&self.apart[like as usize], ticket, &current),
             Kept::At { line, said } => Event::At { line, said },
             Kept::Try { req, hop, end } => Event::Try { req, hop, end },
             Kept::Done {
@@ -269,25 +282,24 @@ impl LaneNotes {
         }
     }
 
-    /// The events but for the sections, in order. It has no room for more.
+    /// The events but for the sections, in order, in the place of all.
     ///
     /// # Errors
     ///
-    /// `NoMemory` where memory runs out.
-    pub fn without_sections(self, alloc: Global) -> Result<LaneNotes, NoteError>
+    /// `NoMemory` where memory runs out; what it does in place takes none.
+    pub fn without_sections(mut self, alloc: Global) -> Result<LaneNotes, NoteError>
         ensures events { IfOk result (λ plain. plain.events ≡ filter is_plain self.events) }
     {
-        let LaneNotes {
-            kept,
-            apart,
-            room: _,
-        } = self;
-        let kept = plain_of(alloc, &kept, &apart).map_err(|_| NoteError::NoMemory)?;
-        Ok(LaneNotes {
-            kept,
-            apart,
-            room: 0,
-        })
+        self.take_sections();
+        Ok(self)
+    }
+
+    /// Takes the sections out, in place. What stands apart is kept only where an event is left that names it.
+    fn take_sections(&mut self)
+        ensures { self.new.events ≡ filter is_plain self.old.events }
+    {
+        keep_plain(&mut self.kept, self.apart.as_slice());
+        pack(&mut self.kept, &mut self.apart);
     }
 
     /// Puts the lines of the events behind a text; a section has one only with the notes.
@@ -296,19 +308,4 @@ impl LaneNotes {
     {
         put_each(text, notes, self.kept.as_slice(), self.apart.as_slice())
     }
-}
-
-/// Makes room for this many more events that stand apart, and for an eighth of those that there are at most.
-fn reserve_apart(apart: &mut Vec<Event>, room: usize) -> Result<(), NoteError>
-    ensures items { apart.new.items ≡ apart.old.items }
-    ensures len { vec_len apart.new ≡ vec_len apart.old }
-    ensures capacity { vec_capacity apart.old ≤ vec_capacity apart.new }
-    ensures room { OnOk result (vec_len apart.new + room ≤ vec_capacity apart.new) }
-{
-    if room <= apart.capacity() - apart.len() {
-        return Ok(());
-    }
-    let eighth = apart.len() / 8;
-    let more = if room < eighth { eighth } else { room };
-    apart.reserve_exact(more).map_err(|_| NoteError::NoMemory)
 }

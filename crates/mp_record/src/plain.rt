@@ -1,12 +1,11 @@
 //! Kept events without the sections.
 
-ghost use Rattle.std.specs.Prelude.{◌≡◌, ◌++◌, ◌∷◌, [], IfOk, OnOk, filter, length, map};
+ghost use Rattle.std.specs.Prelude.{◌≡◌, ◌≤◌, filter, length, vec_len, vec_capacity};
 ghost use Rattle.mp_record.specs.RunView.{is_plain};
 ghost use Rattle.mp_record.specs.Kept.{told, IsBelow, AreBelow};
 
 use crate::event::Event;
 use crate::kept::Kept;
-use std::alloc::{AllocError, Global};
 
 /// Whether an event is no section.
 pub(crate) fn is_plain(event: &Event) -> bool
@@ -21,37 +20,26 @@ fn tells_plain(kept: &Kept, apart: &[Event]) -> bool
     ensures { result ≡ is_plain (told apart.now kept.now) }
 {
     match kept {
-        Kept::Apart(place) => is_plain(&apart[*place]),
-        Kept::Section { like, ticket: _ } => is_plain(&apart[*like]),
+        Kept::Apart(place) => is_plain(&apart[*place as usize]),
+        Kept::Section { like, .. } => is_plain(&apart[*like as usize]),
         _ => true,
     }
 }
 
-/// Keeps an event, unless it tells a section.
-fn keep(plain: &mut Vec<Kept>, kept: &Kept, apart: &[Event]) -> Result<(), AllocError>
-    requires { IsBelow (length apart.now) kept.now }
-    ensures told { OnOk result (map (told apart.now) plain.new.items ≡ map (told apart.now) plain.old.items ++ filter is_plain (told apart.now kept.now ∷ [])) }
-    ensures below { OnOk result (AreBelow (length apart.now) plain.old.items → AreBelow (length apart.now) plain.new.items) }
+/// Keeps the events that tell no section, in their order, in the place of all.
+pub(crate) fn keep_plain(kept: &mut Vec<Kept>, apart: &[Event])
+    requires { AreBelow (length apart.now) kept.old.items }
+    ensures items { kept.new.items ≡ filter (λ k. is_plain (told apart.now k)) kept.old.items }
+    ensures len { vec_len kept.new ≤ vec_len kept.old }
+    ensures capacity { vec_capacity kept.new ≡ vec_capacity kept.old }
 {
-    if tells_plain(kept, apart) {
-        plain.push(*kept)?;
+    let mut count = 0;
+    for place in 0..kept.len() {
+        let one = kept[place];
+        if tells_plain(&one, apart) {
+            kept[count] = one;
+            count += 1;
+        }
     }
-    Ok(())
-}
-
-/// The kept events that tell no section, in order.
-pub(crate) fn plain_of(
-    alloc: Global,
-    kept: &[Kept],
-    apart: &[Event],
-) -> Result<Vec<Kept>, AllocError>
-    requires { AreBelow (length apart.now) kept.now }
-    ensures told { IfOk result (λ plain. map (told apart.now) plain.items ≡ filter is_plain (map (told apart.now) kept.now)) }
-    ensures below { IfOk result (λ plain. AreBelow (length apart.now) plain.items) }
-{
-    let mut plain = Vec::new(alloc);
-    for one in kept {
-        keep(&mut plain, one, apart)?;
-    }
-    Ok(plain)
+    kept.truncate(count);
 }

@@ -3,12 +3,12 @@
 ghost use Rattle.std.specs.Prelude.{◌≡◌, ◌≤◌, ◌+◌, ◌++◌, OnOk, codes, map, length, take, slice_get, slice_index_or, None, Some, []};
 ghost use Rattle.std.specs.List.{flat_map, last_or};
 ghost use Rattle.mp_words.specs.Request.{outcome_of, outcome_after, tried_of, attempts_of};
-ghost use Rattle.mp_record.specs.Words.{one_number, two_numbers, list_word};
+ghost use Rattle.mp_line.specs.Words.{one_number, two_numbers, list_word};
 ghost use Rattle.mp_record.specs.RunText.{as_written, trail, try_names, version_name, outcome_word};
 ghost use Rattle.mp_record.specs.NotedText.{tries_line, asked_line};
 
-use crate::line::{place_byte, place_number, place_numbers, place_status, place_word};
 use crate::words::{put_comma, put_dash};
+use mp_line::line::{place_byte, place_number, place_numbers, place_status, place_word};
 use mp_topology::names::controller_name;
 use mp_topology::topology::Topology;
 use mp_words::entry::RowEntry;

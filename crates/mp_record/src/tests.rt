@@ -3,6 +3,7 @@
 ghost use Rattle.std.specs.Prelude.{◌<◌};
 
 mod lines;
+mod sections;
 
 use crate::event::{Event, Said};
 use crate::notes::{LaneNotes, NoteError};

@@ -3,9 +3,10 @@
 ghost use Rattle.std.specs.Prelude.{◌≡◌, ◌++◌, OnOk, codes};
 ghost use Rattle.std.specs.Fmt.{decimal};
 ghost use Rattle.mp_words.specs.Names.{state_word};
-ghost use Rattle.mp_record.specs.Words.{one_number, two_numbers, three_numbers, pair_word, comma, dash, letter, grace_word, flags_word, maker_word, path_word, list_word};
+ghost use Rattle.mp_line.specs.Words.{one_number, two_numbers, three_numbers, pair_word, list_word};
+ghost use Rattle.mp_record.specs.Words.{comma, dash, letter, grace_word, flags_word, maker_word, path_word};
 
-use crate::digits::put_number;
+use mp_line::digits::put_number;
 use mp_topology::names::controller_name;
 use mp_topology::topology::Topology;
 use mp_words::entry::Grace;

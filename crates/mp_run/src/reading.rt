@@ -65,13 +65,13 @@ pub(crate) fn topology_of(alloc: Global, bytes: &[u8]) -> Result<Topology, Statu
     }
 }
 
-/// The boxes of a file.
-pub(crate) fn boxes_of(alloc: Global, bytes: &[u8]) -> Result<Pages, Status>
-    ensures exact { Gives (λ boxes. boxes) result (boxes_or (boxes_in bytes.now)) }
+/// The boxes of a file, whose bytes are let go.
+pub(crate) fn boxes_of(alloc: Global, bytes: Vec<u8>) -> Result<Pages, Status>
+    ensures exact { Gives (λ boxes. boxes) result (boxes_or (boxes_in bytes.items)) }
     ensures refused { IfErr result IsTextStatus }
     ensures pages { IfOk result (λ boxes. All (λ page. length page ≤ 65536) boxes) }
 {
-    match read_boxes(alloc, bytes) {
+    match read_boxes(alloc, &bytes) {
         Ok(boxes) => Ok(Pages::from_vec(boxes)),
         Err(BoxError::NoMemory) => Err(Status::NoMemory),
         Err(refusal) => Err(Status::Boxes(refusal)),
@@ -90,20 +90,20 @@ pub(crate) fn check_fits(topology: &Topology, boxes: usize) -> Result<(), Status
     }
 }
 
-/// The script of a text, over a topology and so many boxes.
+/// The script of a text, whose bytes are let go, over a topology and so many boxes.
 pub(crate) fn script_of(
     alloc: Global,
-    bytes: &[u8],
+    bytes: Vec<u8>,
     topology: &Topology,
     boxes: usize,
 ) -> Result<Script, Status>
-    requires bytes { length bytes.now ≤ 16777216 }
+    requires bytes { length bytes.items ≤ 16777216 }
     requires topology { IsTopology topology.now }
-    ensures exact { Gives (λ s. s) result (script_or (script_in topology.now boxes bytes.now)) }
+    ensures exact { Gives (λ s. s) result (script_or (script_in topology.now boxes bytes.items)) }
     ensures refused { IfErr result IsTextStatus }
     ensures read { IfOk result scripts.IsScript }
 {
-    match read_script(alloc, bytes, topology, boxes) {
+    match read_script(alloc, &bytes, topology, boxes) {
         Ok(script) => Ok(script),
         Err(ScriptError::NoMemory) => Err(Status::NoMemory),
         Err(refusal) => Err(Status::Script(refusal)),

@@ -46,6 +46,15 @@ pub fn put_all(list: &mut Private<Request>, requests: Vec<Request>) -> Result<()
     if requests.is_empty() {
         return Ok(());
     }
+    put_each(list, requests)
+}
+
+/// Puts requests to the end of the list, one by one.
+#[inline(never)]
+fn put_each(list: &mut Private<Request>, requests: Vec<Request>) -> Result<(), RunError>
+    ensures put { OnOk result (list.new ≡ list.old ++ requests.items) }
+    ensures refused { IfErr result (λ why. why ≡ RunError.NoMemory) }
+{
     for request in requests {
         if list.put(request).is_err() {
             return Err(RunError::NoMemory);

@@ -5,6 +5,8 @@ ghost use Rattle.mp_io.specs.Causes.{Rose};
 ghost use Rattle.mp_io.specs.Files.{Files};
 ghost use Rattle.mp_run.specs.World.{IsWorld};
 ghost use Rattle.mp_script.specs.Facts as scripts;
+ghost use Rattle.mp_record.specs.RunView.{view_of};
+ghost use Rattle.mp_legal.specs.Units.{serial_over};
 ghost use Rattle.mp_run.specs.Forms.{serial};
 ghost use Rattle.mp_run.specs.FormsView.{names_of, told_form};
 ghost use Rattle.mp_run.specs.Status.{run_status};
@@ -21,6 +23,7 @@ use crate::run::serial as run;
 use crate::status::Status;
 use mp_io::folder::Folder;
 use mp_page::page_text;
+use mp_record::run::Run;
 use mp_record::text::run_text;
 use mp_script::script::{Script, World};
 use std::alloc::Global;
@@ -28,15 +31,25 @@ use std::alloc::Global;
 /// How many units each lane and the drain have.
 const UNITS: u32 = 2_097_152;
 
+/// The run of a script, which is let go.
+fn run_of(alloc: Global, world: &World, script: Script) -> Result<Run, RunError>
+    requires world { IsWorld world.now }
+    requires script { scripts.IsScript script }
+    ensures paid { IfOk result (λ run. serial_over 2097152 world.now script ≡ Ok (view_of run)) }
+    ensures spent { (lane : ℕ) → result ≡ Err (RunError.Spent lane) → serial_over 2097152 world.now script ≡ Err lane }
+{
+    run(alloc, world, &script, UNITS)
+}
+
 /// The text of a run.
 #[tactic(auto, unfolding(crate::specs::Outcome::serial_text))]
-fn text_of_run(alloc: Global, world: &World, script: &Script) -> Result<Vec<u8>, Status>
+fn text_of_run(alloc: Global, world: &World, script: Script) -> Result<Vec<u8>, Status>
     requires world { IsWorld world.now }
-    requires script { scripts.IsScript script.now }
-    ensures exact { Gives (λ text. text.items) result (serial_text world.now script.now) }
+    requires script { scripts.IsScript script }
+    ensures exact { Gives (λ text. text.items) result (serial_text world.now script) }
     ensures refused { IfErr result IsTextStatus }
 {
-    match run(alloc, world, script, UNITS) {
+    match run_of(alloc, world, script) {
         Ok(run) => { run_text(alloc, &run, &world.topology, false).map_err(|_| Status::NoMemory) }
         Err(why) => Err(halted(&why)),
     }
@@ -52,7 +65,7 @@ fn halted(why: &RunError) -> Status
     }
 }
 
-/// The text of a run for the bytes of the three files. The bytes of the boxes are let go once they are read.
+/// The text of a run for the bytes of the three files.
 #[tactic(auto, using(crate::proofs::Outcomes::outcome_steps), unfolding(crate::specs::Outcome::serial_for))]
 fn text_of_files(
     alloc: Global,
@@ -66,11 +79,11 @@ fn text_of_files(
     ensures refused { IfErr result IsTextStatus }
 {
     let topology = topology_of(alloc, &topology)?;
-    let pages = boxes_of(alloc, &boxes)?;
+    let pages = boxes_of(alloc, boxes)?;
     check_fits(&topology, pages.len())?;
-    let script = script_of(alloc, &script, &topology, pages.len())?;
+    let script = script_of(alloc, script, &topology, pages.len())?;
     let world = World { topology, pages };
-    text_of_run(alloc, &world, &script)
+    text_of_run(alloc, &world, script)
 }
 
 /// The text of a run of the three files.
@@ -90,14 +103,14 @@ fn serial<F: Folder>(alloc: Global, folder: &mut F, names: &Names<'_>) -> Result
     text_of_files(alloc, topology, boxes, script)
 }
 
-/// The text of the pages in the bytes of a file of boxes, which are let go once they are read.
+/// The text of the pages in the bytes of a file of boxes.
 #[tactic(auto, using(crate::proofs::Outcomes::outcome_steps), unfolding(crate::specs::Outcome::pages_for))]
 fn text_of_boxes(alloc: Global, bytes: Vec<u8>, most: u32) -> Result<Vec<u8>, Status>
     requires { length bytes.items ≤ 16777216 }
     ensures exact { Gives (λ text. text.items) result (pages_for bytes.items most) }
     ensures refused { IfErr result IsTextStatus }
 {
-    let boxes = boxes_of(alloc, &bytes)?;
+    let boxes = boxes_of(alloc, bytes)?;
     page_text(alloc, boxes.as_slice(), most).map_err(|_| Status::NoMemory)
 }
 

@@ -50,6 +50,7 @@ fn come_back<S: Steps>(steps: &mut S, flight: Flight, request: &mut Request, hop
 }
 
 /// Fails a flight over on an ANA status.
+#[inline(never)]
 fn fail_over<S: Steps, G: Gate>(
     steps: &mut S,
     gate: &G,

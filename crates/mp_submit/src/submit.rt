@@ -6,13 +6,14 @@ ghost use Rattle.mp_words.specs.declared.trying.Try.{Try};
 ghost use Rattle.mp_words.specs.declared.trying.Outcome.TheVariants as outcome;
 ghost use Rattle.mp_words.specs.Row.{is_available};
 ghost use Rattle.mp_words.specs.Request.{outcome_of, asked_of};
-ghost use Rattle.mp_core.specs.Core.{Tells};
+ghost use Rattle.mp_core.specs.Core.{Core, Tells};
+ghost use Rattle.mp_core.specs.Kinds.{Leaves};
 ghost use Rattle.mp_core.specs.Memory.{current_at};
 ghost use Rattle.mp_core.specs.Notes.{HasUsable};
 ghost use Rattle.mp_core.specs.Reads.{IsOpen, IsNote};
 ghost use Rattle.mp_words.specs.PathTable.{paths_of};
 ghost use Rattle.mp_submit.specs.Choice.{end_with, has_available, keeps_choice};
-ghost use Rattle.mp_submit.specs.Submits.{Submits, Dispatches, KeepsCurrent, open_try};
+ghost use Rattle.mp_submit.specs.Submits.{Submits, Dispatches, KeepsCurrent, answer_of};
 
 use crate::select::select;
 use mp_core::gate::Gate;
@@ -22,7 +23,6 @@ use mp_core::view::Section;
 use mp_policy::listed::{count, path_at};
 use mp_words::flight::Flight;
 use mp_words::near::Near;
-use mp_words::note::Note;
 use mp_words::numbered::Numbered;
 use mp_words::numbers::{Node, ReqId, Slot};
 use mp_words::reading::Reading;
@@ -53,18 +53,6 @@ fn any_available(reading: &Reading) -> bool
     found
 }
 
-/// How a try without a choice ends.
-fn end_without(reading: &Reading) -> TryEnd
-    requires { reading.now.len ≤ 8 }
-    ensures { result ≡ end_with (paths_of reading.now) None }
-{
-    if any_available(reading) {
-        TryEnd::Listed
-    } else {
-        TryEnd::Failed
-    }
-}
-
 /// Whether the node's current path that was read is this slot.
 fn is_current(current: &Option<Option<Slot>>, slot: Slot) -> bool
     ensures { (result ≡ true) → current.now ≡ Some (Some slot) }
@@ -88,50 +76,60 @@ fn keep_current<S: Steps>(steps: &mut S, section: &mut Section, keeps: bool, nod
     }
 }
 
-/// How a section that selected was left.
-pub(crate) struct Dispatched {
-    pub end: TryEnd,
-    pub answer: Submitted,
-    pub note: Note,
+/// How a try ends, and what a submit answers.
+struct Dispatched {
+    end: TryEnd,
+    answer: Submitted,
 }
 
-/// Sends a request to the choice, if there is one, and leaves the section.
+/// Sends a request to the choice, if there is one. The section is then to be left.
 fn dispatch<S: Steps>(
     steps: &mut S,
-    section: Section,
+    section: &mut Section,
     keeps: bool,
     node: Node,
     choice: Option<Slot>,
     req: ReqId,
 ) -> Dispatched
-    requires open { IsOpen (S.core steps.old) section }
-    requires unsent { section.sent ≡ false }
-    requires note { IsNote section.note }
-    requires usable { (slot : _) → choice ≡ Some slot → HasUsable section.note slot }
-    requires current { keeps ≡ true → Tells (S.core steps.old) (λ m. section.note.current ≡ Some (current_at m node)) }
-    ensures done { Dispatches keeps node req (S.core steps.old) (S.core steps.new) section choice result.end result.answer result.note }
+    requires open { IsOpen (S.core steps.old) section.old }
+    requires unsent { section.old.sent ≡ false }
+    requires note { IsNote section.old.note }
+    requires usable { (slot : _) → choice ≡ Some slot → HasUsable section.old.note slot }
+    requires current { keeps ≡ true → Tells (S.core steps.old) (λ m. section.old.note.current ≡ Some (current_at m node)) }
+    ensures open { IsOpen (S.core steps.new) section.new }
+    ensures note { section.new.note ≡ section.old.note }
+    ensures done { (after : Core) → Leaves (S.core steps.new) after section.new → Dispatches keeps node req (S.core steps.old) after section.old choice result.end result.answer section.new.note }
     ensures range { (slot : _) → choice ≡ Some slot → slot < 15 }
 {
-    let mut section = section;
     match choice {
         Some(slot) => {
-            keep_current(steps, &mut section, keeps, node, slot);
-            let flight = steps.send(&mut section, slot, req);
-            let note = steps.leave(section);
+            keep_current(steps, section, keeps, node, slot);
+            let flight = steps.send(section, slot, req);
             Dispatched {
                 end: TryEnd::Sent(flight.slot, flight.version),
                 answer: Submitted::Sent(flight),
-                note,
             }
         }
-        None => {
-            let end = end_without(&section.note.reading);
-            let note = steps.leave(section);
-            let answer = match end {
-                TryEnd::Failed => Submitted::Failed,
-                _ => Submitted::Listed,
-            };
-            Dispatched { end, answer, note }
+        None => give_up(&section.note.reading),
+    }
+}
+
+/// How a try without a choice ends, and what a submit answers.
+#[inline(never)]
+fn give_up(reading: &Reading) -> Dispatched
+    requires { reading.now.len ≤ 8 }
+    ensures end { result.end ≡ end_with (paths_of reading.now) None }
+    ensures answer { (lane : _) (req : _) → result.answer ≡ answer_of lane req result.end }
+{
+    if any_available(reading) {
+        Dispatched {
+            end: TryEnd::Listed,
+            answer: Submitted::Listed,
+        }
+    } else {
+        Dispatched {
+            end: TryEnd::Failed,
+            answer: Submitted::Failed,
         }
     }
 }
@@ -141,20 +139,6 @@ fn keeps_choice(policy: Policy) -> bool
     ensures { result ≡ keeps_choice policy }
 {
     matches!(policy, Policy::RoundRobin)
-}
-
-/// A try whose attempts are still to come.
-fn open_try(hop: u32, end: TryEnd, note: Note) -> Try
-    ensures { result ≡ open_try hop end note }
-{
-    Try {
-        hop,
-        end,
-        note,
-        statuses: [0; 6],
-        count: 0,
-        back: None,
-    }
 }
 
 /// Submits a request in one section: it is sent to the path that the policy chooses of all listed ones or, where none is
@@ -181,14 +165,21 @@ pub fn submit<S: Steps, G: Gate>(
     let choice = select(steps, &mut section, near, node, &order);
     let keeps = keeps_choice(order.policy);
     let hop = request.next();
-    let Dispatched { end, answer, note } = dispatch(
+    let Dispatched { end, answer } = dispatch(
         steps,
-        section,
+        &mut section,
         keeps,
         node,
         choice,
         request.id(),
     );
-    request.tried(open_try(hop, end, note));
+    request.tried(Try {
+        hop,
+        end,
+        note: steps.leave(section),
+        statuses: [0; 6],
+        count: 0,
+        back: None,
+    });
     answer
 }

@@ -65,7 +65,7 @@ fn writes_what_a_line_says(rt: HostRuntime) -> Result<(), Fail> {
 }
 
 /// A section in side 0 with ticket 5 that read nothing.
-fn nothing_read() -> Note {
+pub(super) fn nothing_read() -> Note {
     let none = opened(0).row;
     Note {
         lane: LaneId::make(0).unwrap(),
@@ -84,7 +84,7 @@ fn nothing_read() -> Note {
 }
 
 /// A section in side 1 that read the order, two of three rows, no current path, and two depths.
-fn much_read() -> Note {
+pub(super) fn much_read() -> Note {
     let mut note = nothing_read();
     note.side = 1;
     note.order = Some(opening_order());
@@ -107,12 +107,12 @@ fn current_read() -> Note {
 }
 
 /// A section.
-fn section(note: Note, moved: Option<(Slot, u32)>) -> Event {
+pub(super) fn section(note: Note, moved: Option<(Slot, u32)>) -> Event {
     Event::Sec { note, moved }
 }
 
 /// The end of the first try of request 65,535, with the first of three statuses.
-fn fin(count: u8, back: Option<Back>) -> Event {
+pub(super) fn fin(count: u8, back: Option<Back>) -> Event {
     Event::Fin {
         req: request(65535),
         hop: 1,
@@ -123,7 +123,7 @@ fn fin(count: u8, back: Option<Back>) -> Event {
 }
 
 /// Sections, each before the event that it belongs to, by number.
-fn event(number: u8) -> Event {
+pub(super) fn event(number: u8) -> Event {
     let req = request(3);
     let hop = 4;
     match number {

@@ -1,5 +1,5 @@
 use Rattle.std.proofs.Common.{◌≡◌, ◌++◌}
-use Rattle.mp_record.specs.Words.{joined}
+use Rattle.mp_line.specs.Words.{joined}
 use Rattle.mp_record.specs.NoteText.{depth_word, loaded_depth}
 use Rattle.mp_record.proofs.Joined.{has_items, given}
 use Rattle.mp_record.proofs.note_text.put_depths.Given as goal

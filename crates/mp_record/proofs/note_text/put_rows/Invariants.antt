@@ -1,5 +1,5 @@
 use Rattle.std.proofs.Common.{◌≡◌, ◌++◌}
-use Rattle.mp_record.specs.Words.{joined}
+use Rattle.mp_line.specs.Words.{joined}
 use Rattle.mp_record.specs.NoteText.{row_word}
 use Rattle.mp_record.proofs.Joined.{has_items, picked}
 use Rattle.mp_record.proofs.note_text.put_rows.Given as goal

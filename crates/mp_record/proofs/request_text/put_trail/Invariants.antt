@@ -1,5 +1,5 @@
 use Rattle.std.proofs.Common.{◌≡◌, ◌++◌}
-use Rattle.mp_record.specs.Words.{joined}
+use Rattle.mp_line.specs.Words.{joined}
 use Rattle.mp_record.specs.RunText.{as_written}
 use Rattle.mp_record.proofs.Joined.{has_items}
 use Rattle.mp_record.proofs.Trails.{trail_of}

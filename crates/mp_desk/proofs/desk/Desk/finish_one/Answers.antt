@@ -78,45 +78,45 @@ returns-in-Done-clause-weight g c =
     weighs c.args.answers.now c.args.flying (g.S.Steps.core c.args.steps.now) (g.S.Steps.core c.loop.steps) (g.S.Steps.core c.finish.new.steps) (desk_of c.args.self.now) (desk_of c.loop.self) (desk_of c.land.new.self) (desk_of c.reserve.new.self) c.loop.request c.finish.new.request (finished.Done c.in-Done.field-0) c.loop.counter c.left-end.result c.loop.invariant
     (record { finishes = subst (λ f. Finishes c.args.answers.now (g.S.Steps.core c.loop.steps) (g.S.Steps.core c.finish.new.steps) f c.loop.request c.finish.new.request (finished.Done c.in-Done.field-0)) c.flight-in-loop.ensures c.in-Done.ensures; same = c.loop.invariant.same; left = tt; room = c.reserve.ensures.desk; desk = c.land.ensures })
 
-pub land-requires-in-Back-clause-room : goal.land-requires-in-Back-clause-room
-land-requires-in-Back-clause-room g c = ok_so c.reserve.result c.is_err.result c.is_err.ensures.value c.if-is_err.false c.reserve.ensures.room
+pub land_back-requires-clause-room : goal.land_back-requires-clause-room
+land_back-requires-clause-room g c = ok_so c.reserve.result c.is_err.result c.is_err.ensures.value c.if-is_err.false c.reserve.ensures.room
 
-pub land-requires-in-Back-clause-tried : goal.land-requires-in-Back-clause-tried
-land-requires-in-Back-clause-tried g c =
+pub land_back-requires-clause-tried : goal.land_back-requires-clause-tried
+land_back-requires-clause-tried g c =
     has_last c.args.answers.now c.args.flying (g.S.Steps.core c.loop.steps) (g.S.Steps.core c.finish.new.steps) (desk_of c.loop.self) c.loop.request c.finish.new.request (finished.Back c.in-Back.note) c.loop.invariant.taken
     (subst (λ f. Finishes c.args.answers.now (g.S.Steps.core c.loop.steps) (g.S.Steps.core c.finish.new.steps) f c.loop.request c.finish.new.request (finished.Back c.in-Back.note)) c.flight-in-loop.ensures c.in-Back.ensures) c.loop.invariant.same tt
 
 pub returns-in-Back-clause-does : goal.returns-in-Back-clause-does
 returns-in-Back-clause-does g c near line k =
-    does c.args.answers.now c.args.flying (g.S.Steps.core c.args.steps.now) (g.S.Steps.core c.loop.steps) (g.S.Steps.core c.finish.new.steps) (desk_of c.args.self.now) (desk_of c.loop.self) (desk_of c.land-in-Back.new.self) (desk_of c.reserve.new.self) c.loop.request c.finish.new.request (finished.Back c.in-Back.note) c.loop.counter c.left-end.result c.loop.invariant
+    does c.args.answers.now c.args.flying (g.S.Steps.core c.args.steps.now) (g.S.Steps.core c.loop.steps) (g.S.Steps.core c.finish.new.steps) (desk_of c.args.self.now) (desk_of c.loop.self) (desk_of c.land_back.new.self) (desk_of c.reserve.new.self) c.loop.request c.finish.new.request (finished.Back c.in-Back.note) c.loop.counter c.left-end.result c.loop.invariant
     (record {
       finishes = subst (λ f. Finishes c.args.answers.now (g.S.Steps.core c.loop.steps) (g.S.Steps.core c.finish.new.steps) f c.loop.request c.finish.new.request (finished.Back c.in-Back.note)) c.flight-in-loop.ensures c.in-Back.ensures;
       same = c.loop.invariant.same;
       left = tt;
       room = c.reserve.ensures.desk;
-      desk = c.land-in-Back.ensures;
+      desk = c.land_back.ensures;
     }) c.loop-test.true near line k
 
 pub returns-in-Back-clause-leaves : goal.returns-in-Back-clause-leaves
 returns-in-Back-clause-leaves g c =
-    leaves c.args.answers.now c.args.flying (g.S.Steps.core c.args.steps.now) (g.S.Steps.core c.loop.steps) (g.S.Steps.core c.finish.new.steps) (desk_of c.args.self.now) (desk_of c.loop.self) (desk_of c.land-in-Back.new.self) (desk_of c.reserve.new.self) c.loop.request c.finish.new.request (finished.Back c.in-Back.note) c.loop.counter c.left-end.result c.loop.invariant
+    leaves c.args.answers.now c.args.flying (g.S.Steps.core c.args.steps.now) (g.S.Steps.core c.loop.steps) (g.S.Steps.core c.finish.new.steps) (desk_of c.args.self.now) (desk_of c.loop.self) (desk_of c.land_back.new.self) (desk_of c.reserve.new.self) c.loop.request c.finish.new.request (finished.Back c.in-Back.note) c.loop.counter c.left-end.result c.loop.invariant
     (record {
       finishes = subst (λ f. Finishes c.args.answers.now (g.S.Steps.core c.loop.steps) (g.S.Steps.core c.finish.new.steps) f c.loop.request c.finish.new.request (finished.Back c.in-Back.note)) c.flight-in-loop.ensures c.in-Back.ensures;
       same = c.loop.invariant.same;
       left = tt;
       room = c.reserve.ensures.desk;
-      desk = c.land-in-Back.ensures;
+      desk = c.land_back.ensures;
     })
 
 pub returns-in-Back-clause-stands : goal.returns-in-Back-clause-stands
 returns-in-Back-clause-stands g c =
-    stands c.args.answers.now c.args.flying (g.S.Steps.core c.args.steps.now) (g.S.Steps.core c.loop.steps) (g.S.Steps.core c.finish.new.steps) (desk_of c.args.self.now) (desk_of c.loop.self) (desk_of c.land-in-Back.new.self) (desk_of c.reserve.new.self) c.loop.request c.finish.new.request (finished.Back c.in-Back.note) c.loop.counter c.left-end.result c.loop.invariant
-    (record { finishes = subst (λ f. Finishes c.args.answers.now (g.S.Steps.core c.loop.steps) (g.S.Steps.core c.finish.new.steps) f c.loop.request c.finish.new.request (finished.Back c.in-Back.note)) c.flight-in-loop.ensures c.in-Back.ensures; same = c.loop.invariant.same; left = tt; room = c.reserve.ensures.desk; desk = c.land-in-Back.ensures })
+    stands c.args.answers.now c.args.flying (g.S.Steps.core c.args.steps.now) (g.S.Steps.core c.loop.steps) (g.S.Steps.core c.finish.new.steps) (desk_of c.args.self.now) (desk_of c.loop.self) (desk_of c.land_back.new.self) (desk_of c.reserve.new.self) c.loop.request c.finish.new.request (finished.Back c.in-Back.note) c.loop.counter c.left-end.result c.loop.invariant
+    (record { finishes = subst (λ f. Finishes c.args.answers.now (g.S.Steps.core c.loop.steps) (g.S.Steps.core c.finish.new.steps) f c.loop.request c.finish.new.request (finished.Back c.in-Back.note)) c.flight-in-loop.ensures c.in-Back.ensures; same = c.loop.invariant.same; left = tt; room = c.reserve.ensures.desk; desk = c.land_back.ensures })
 
 pub returns-in-Back-clause-weight : goal.returns-in-Back-clause-weight
 returns-in-Back-clause-weight g c =
-    weighs c.args.answers.now c.args.flying (g.S.Steps.core c.args.steps.now) (g.S.Steps.core c.loop.steps) (g.S.Steps.core c.finish.new.steps) (desk_of c.args.self.now) (desk_of c.loop.self) (desk_of c.land-in-Back.new.self) (desk_of c.reserve.new.self) c.loop.request c.finish.new.request (finished.Back c.in-Back.note) c.loop.counter c.left-end.result c.loop.invariant
-    (record { finishes = subst (λ f. Finishes c.args.answers.now (g.S.Steps.core c.loop.steps) (g.S.Steps.core c.finish.new.steps) f c.loop.request c.finish.new.request (finished.Back c.in-Back.note)) c.flight-in-loop.ensures c.in-Back.ensures; same = c.loop.invariant.same; left = tt; room = c.reserve.ensures.desk; desk = c.land-in-Back.ensures })
+    weighs c.args.answers.now c.args.flying (g.S.Steps.core c.args.steps.now) (g.S.Steps.core c.loop.steps) (g.S.Steps.core c.finish.new.steps) (desk_of c.args.self.now) (desk_of c.loop.self) (desk_of c.land_back.new.self) (desk_of c.reserve.new.self) c.loop.request c.finish.new.request (finished.Back c.in-Back.note) c.loop.counter c.left-end.result c.loop.invariant
+    (record { finishes = subst (λ f. Finishes c.args.answers.now (g.S.Steps.core c.loop.steps) (g.S.Steps.core c.finish.new.steps) f c.loop.request c.finish.new.request (finished.Back c.in-Back.note)) c.flight-in-loop.ensures c.in-Back.ensures; same = c.loop.invariant.same; left = tt; room = c.reserve.ensures.desk; desk = c.land_back.ensures })
 
 pub push_section-requires : goal.push_section-requires
 push_section-requires g c = let room = (ok_so c.reserve.result c.is_err.result c.is_err.ensures.value c.if-is_err.false c.reserve.ensures.room).notes in omega (arith, room)

@@ -40,6 +40,7 @@ invariant_of-self c =
       range = a.range;
       units = ap (λ (x : Ruled). units_of x.seats) (ap (λ x. x.0) c.turn_keep_moved.ensures.view) ∙ units_taken m r a.lane c.get.result a.left (view.keep_moved c.args.slot c.row_in-row.result (view_of a.lane r.seats)) a.range a.rule a.units c.get.ensures.number refl;
       packed = a.packed;
+      same = a.same;
       rule = stands_as _ _ _ _ refl (ap (λ x. x.0) c.turn_keep_moved.ensures.view ∙ ap (λ (x : Row). unit_turn a.lane (view.keep_moved c.args.slot x) r) c.row_in-row.ensures.row) (keeper.keep_moved_stands m r a.lane c.args.slot a.range c.requires.left a.rule);
     }
 
@@ -78,6 +79,7 @@ invariant_of-self-2 c =
       range = a.range;
       units = ap (λ (x : Ruled). units_of x.seats) (c.keep.ensures.view) ∙ units_taken m r a.lane c.get-2.result a.left (view.row_kept c.entry_by-entry.result (view_of a.lane r.seats)) a.range a.rule a.units c.get-2.ensures.number refl;
       packed = c.keep.ensures.packed a.packed;
+      same = c.keep.ensures.same a.same;
       rule = stands_as _ _ _ _ (c.keep.ensures.words ∙ ap (λ (x : RowEntry). row_in x.slot x.row m) entry) (c.keep.ensures.view ∙ ap (λ (x : RowEntry). unit_turn a.lane (view.row_kept x) r) entry) (keeper.row_kept_stands m r a.lane c.args.slot c.args.old c.args.op c.args.by a.range c.row_in-row.ensures.below c.requires.left c.requires.may same a.rule);
     }
 

@@ -48,6 +48,7 @@ invariant_of-self c =
       range = a.range;
       units = ap (λ (x : Ruled). units_of x.seats) (ap (λ x. x.0) c.turn_depth_looked.ensures.view) ∙ units_same r a.lane (view.depth_looked c.args.slot c.depth_in-depth.result (view_of a.lane r.seats)) refl ∙ a.units;
       packed = a.packed;
+      same = a.same;
       rule = stands_as _ _ _ _ refl (ap (λ x. x.0) c.turn_depth_looked.ensures.view ∙ ap (λ (x : ℕ). keeper_turn a.lane (view.depth_looked c.args.slot x) r) c.depth_in-depth.ensures.depth) (keeper.looked_stands m r a.lane c.args.slot a.range a.rule);
     }
 

@@ -40,6 +40,7 @@ invariant_of-self c =
       range = a.range;
       units = ap (λ (x : Ruled). units_of x.seats) (ap (λ x. x.0) c.turn_row_held.ensures.view) ∙ units_same r a.lane (view.row_held c.args.slot c.row_in-row.result (view_of a.lane r.seats)) refl ∙ a.units;
       packed = a.packed;
+      same = a.same;
       rule = stands_as _ _ _ _ refl (ap (λ x. x.0) c.turn_row_held.ensures.view ∙ ap (λ (x : Row). keeper_turn a.lane (view.row_held c.args.slot x) r) c.row_in-row.ensures.row) (keeper.held_stands m r a.lane c.args.slot a.range a.rule);
     }
 

@@ -40,6 +40,7 @@ invariant_of-self c =
       range = a.range;
       units = ap (λ (x : Ruled). units_of x.seats) (ap (λ x. x.0) c.turn_scanned.ensures.view) ∙ units_same r a.lane (view.scanned c.args.side c.side_in-found.result.entries c.side_in-found.result.inside (last_version (keeper_of r)) (view_of a.lane r.seats)) refl ∙ a.units;
       packed = a.packed;
+      same = a.same;
       rule = stands_as _ _ _ _ refl (ap (λ x. x.0) c.turn_scanned.ensures.view ∙ ap (λ (x : Side). keeper_turn a.lane (view.scanned c.args.side x.entries x.inside (last_version (keeper_of r))) r) c.side_in-found.ensures) (keeper.scanned_stands m r a.lane c.args.side a.range c.requires.side a.rule);
     }
 

@@ -54,6 +54,7 @@ invariant_of-self c =
       range = a.range;
       units = ap (λ (x : Ruled). units_of x.seats) (c.store.ensures.view) ∙ units_taken m r a.lane c.get.result a.left (view.order_stored c.args.entry (view_of a.lane r.seats)) a.range a.rule a.units c.get.ensures.number refl;
       packed = c.store.ensures.packed a.packed;
+      same = c.store.ensures.same a.same;
       rule = stands_as _ _ _ _ c.store.ensures.words c.store.ensures.view (keeper.order_stored_stands m r a.lane c.args.entry a.range c.requires.left c.requires.next c.store.ensures.fits a.rule);
     }
 

@@ -15,5 +15,6 @@ invariant_of-result c =
       range = (let e = c.first_lane.ensures in omega arith);
       units = ap (λ (x : Ruled). units_of x.seats) known;
       packed = c.requires.packed;
+      same = c.of_words.ensures;
       rule = subst (Stands (unpacked c.args.words.now)) (sym known) (begun_stands o c.requires.lawful c.requires.room);
     }

@@ -41,6 +41,7 @@ invariant_of-self c =
       range = a.range;
       units = ap (λ (x : Ruled). units_of x.seats) (ap (λ x. x.0) c.turn_row_moved.ensures.view) ∙ units_same r a.lane (view.row_moved c.args.slot c.row_in-row.result (record s { tried = true }) (view_of a.lane r.seats)) refl ∙ a.units;
       packed = a.packed;
+      same = a.same;
       rule = stands_as _ _ _ _ refl (ap (λ x. x.0) c.turn_row_moved.ensures.view ∙ ap (λ (x : Row). lane_turn a.lane (view.row_moved c.args.slot x (record s { tried = true })) r) c.row_in-row.ensures.row) (lane.moved_stands m r a.lane c.args.slot s a.range c.requires.open a.rule);
     }
 
@@ -92,6 +93,7 @@ invariant_of-self-2 c =
       range = a.range;
       units = ap (λ (x : Ruled). units_of x.seats) (c.change.ensures.view) ∙ units_same r a.lane (view.row_changed c.entry_by-entry.result (record s { tried = true }) (view_of a.lane r.seats)) refl ∙ a.units;
       packed = c.change.ensures.packed a.packed;
+      same = c.change.ensures.same a.same;
       rule = stands_as _ _ _ _ (c.change.ensures.words ∙ ap (λ (x : RowEntry). row_in x.slot x.row m) entry) (c.change.ensures.view ∙ ap (λ (x : RowEntry). lane_turn a.lane (view.row_changed x (record s { tried = true })) r) entry) (lane.changed_stands m r a.lane c.args.slot s c.args.old c.args.op c.args.by a.range c.row_in-row.ensures.below c.requires.open (lane.part_reaches m r a.lane c.args.slot s a.range c.requires.open c.requires.old.listed c.requires.reached a.rule) c.requires.op c.requires.changes c.requires.once same a.rule);
     }
 

@@ -27,6 +27,7 @@ use Rattle.mp_plain.specs.declared.ledger.Ruled.{Ruled}
 use Rattle.mp_plain.specs.Lanes.{lane_turn, keeper_turn, unit_turn, part_of, keeper_of, views_of, core_at}
 use Rattle.mp_plain.specs.Stands.{Stands, units_of}
 use Rattle.mp_plain.proofs.Lanes.{mirror, core_after, core_step, units_same, units_taken, stands_as}
+use Rattle.mp_plain.proofs.Words.{still_same}
 use Rattle.mp_plain.proofs.LaneKinds as lane
 use Rattle.mp_plain.proofs.KeeperKinds as keeper
 use Rattle.mp_plain.proofs.steps.PlainSteps.clear_current.Goals as goal
@@ -47,6 +48,7 @@ invariant_of-self c =
       range = a.range;
       units = ap (λ (x : Ruled). units_of x.seats) (c.clear.ensures.view) ∙ units_same r a.lane (view.cleared c.args.node c.args.slot (view_of a.lane r.seats)) refl ∙ a.units;
       packed = c.clear.ensures.packed a.packed;
+      same = still_same _ _ _ _ c.clear.ensures.words refl refl a.same;
       rule = stands_as _ _ _ _ c.clear.ensures.words c.clear.ensures.view (keeper.cleared_stands m r a.lane c.args.node c.args.slot a.range c.clear.ensures.below a.rule);
     }
 

@@ -27,6 +27,7 @@ use Rattle.mp_plain.specs.declared.ledger.Ruled.{Ruled}
 use Rattle.mp_plain.specs.Lanes.{lane_turn, keeper_turn, unit_turn, part_of, keeper_of, views_of, core_at}
 use Rattle.mp_plain.specs.Stands.{Stands, units_of}
 use Rattle.mp_plain.proofs.Lanes.{mirror, core_after, core_step, units_same, units_taken, stands_as}
+use Rattle.mp_plain.proofs.Words.{still_same}
 use Rattle.mp_plain.proofs.LaneKinds as lane
 use Rattle.mp_plain.proofs.KeeperKinds as keeper
 use Rattle.mp_plain.proofs.steps.PlainSteps.end.Goals as goal
@@ -55,6 +56,7 @@ invariant_of-self c =
       range = a.range;
       units = ap (λ (x : Ruled). units_of x.seats) (c.land.ensures.view) ∙ units_same r a.lane (view.landed c.args.flight (view_of a.lane r.seats)) refl ∙ a.units;
       packed = c.land.ensures.packed a.packed;
+      same = still_same _ _ _ _ c.land.ensures.words refl refl a.same;
       rule = stands_as _ _ _ _ c.land.ensures.words c.land.ensures.view (lane.landed_stands m r a.lane c.args.flight a.range c.land.ensures.below c.requires.flies a.rule);
     }
 

@@ -41,6 +41,7 @@ invariant_of-self c =
       range = a.range;
       units = ap (λ (x : Ruled). units_of x.seats) (ap (λ x. x.0) c.turn_row_read.ensures.view) ∙ units_same r a.lane (view.row_read c.args.flight.now.slot c.row_in-row.result (with_note c.note_flight.new.note s) (view_of a.lane r.seats)) refl ∙ a.units;
       packed = a.packed;
+      same = a.same;
       rule = stands_as _ _ _ _ refl (ap (λ x. x.0) c.turn_row_read.ensures.view ∙ (λ i. lane_turn a.lane (view.row_read c.args.flight.now.slot (c.row_in-row.ensures.row i) (with_note ((c.note_flight.ensures ∙ ap (λ (x : Row). flight_noted c.args.flight.now.slot x s.note) c.row_in-row.ensures.row) i) s)) r)) (lane.flight_stands m r a.lane s c.args.flight.now a.range c.requires.open c.requires.flies c.requires.alone a.rule);
     }
 

@@ -27,19 +27,20 @@ use Rattle.mp_plain.specs.declared.ledger.Ruled.{Ruled}
 use Rattle.mp_plain.specs.Lanes.{lane_turn, keeper_turn, unit_turn, part_of, keeper_of, views_of, core_at}
 use Rattle.mp_plain.specs.Stands.{Stands, units_of}
 use Rattle.mp_plain.proofs.Lanes.{mirror, core_after, core_step, units_same, units_taken, stands_as}
+use Rattle.mp_plain.proofs.Words.{still_same}
 use Rattle.mp_plain.proofs.LaneKinds as lane
 use Rattle.mp_plain.proofs.KeeperKinds as keeper
 use Rattle.mp_plain.proofs.steps.PlainSteps.leave.Goals as goal
 
-pub leave-requires-clause-side : goal.leave-requires-clause-side
-leave-requires-clause-side c =
+pub count_out-requires-clause-side : goal.count_out-requires-clause-side
+count_out-requires-clause-side c =
     let a = c.args.self.now in
     let m = unpacked a.words in
     let r = a.ledger.seat.me.0 in
     (lane.formed m r a.lane c.args.section a.range c.requires.open a.rule).side
 
-pub leave-requires-clause-inside : goal.leave-requires-clause-inside
-leave-requires-clause-inside c =
+pub count_out-requires-clause-inside : goal.count_out-requires-clause-inside
+count_out-requires-clause-inside c =
     let a = c.args.self.now in
     let m = unpacked a.words in
     let r = a.ledger.seat.me.0 in
@@ -50,11 +51,13 @@ invariant_of-self c =
     let a = c.args.self.now in
     let m = unpacked a.words in
     let r = a.ledger.seat.me.0 in
+    let known = ap (λ x. x.0) c.turn_finished.ensures.view in
     record {
       range = a.range;
-      units = ap (λ (x : Ruled). units_of x.seats) (c.leave.ensures.view) ∙ units_same r a.lane (view.finished c.args.section (view_of a.lane r.seats)) refl ∙ a.units;
-      packed = c.leave.ensures.packed a.packed;
-      rule = stands_as _ _ _ _ c.leave.ensures.words c.leave.ensures.view (lane.finished_stands m r a.lane c.args.section a.range c.requires.open a.rule);
+      units = ap (λ (x : Ruled). units_of x.seats) known ∙ units_same r a.lane (view.finished c.args.section (view_of a.lane r.seats)) refl ∙ a.units;
+      packed = c.count_out.ensures.packed a.packed;
+      same = still_same _ _ _ _ c.count_out.ensures.words refl refl a.same;
+      rule = stands_as _ _ _ _ c.count_out.ensures.words known (lane.finished_stands m r a.lane c.args.section a.range c.requires.open a.rule);
     }
 
 pub returns-clause-kind : goal.returns-clause-kind
@@ -62,4 +65,4 @@ returns-clause-kind c =
     let a = c.args.self.now in
     let m = unpacked a.words in
     let r = a.ledger.seat.me.0 in
-    record { after = core_after a.ledger.seat.table_id _ a.lane _ _ (left_in c.args.section.note.side m) _ (c.leave.ensures.home) (ap (λ (x : Ruled). x.seats) (c.leave.ensures.view)) c.leave.ensures.words _ (core_step a.ledger.seat.table_id a.lane m (left_in c.args.section.note.side m) r (view.finished c.args.section (view_of a.lane r.seats)) a.range a.rule) }
+    record { after = core_after a.ledger.seat.table_id _ a.lane _ _ (left_in c.args.section.note.side m) _ (c.turn_finished.ensures.home) (ap (λ (x : Ruled). x.seats) (ap (λ x. x.0) c.turn_finished.ensures.view)) c.count_out.ensures.words _ (core_step a.ledger.seat.table_id a.lane m (left_in c.args.section.note.side m) r (view.finished c.args.section (view_of a.lane r.seats)) a.range a.rule) }

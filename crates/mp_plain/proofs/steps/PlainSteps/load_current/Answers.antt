@@ -48,6 +48,7 @@ invariant_of-self c =
       range = a.range;
       units = ap (λ (x : Ruled). units_of x.seats) (ap (λ x. x.0) c.turn_noted.ensures.view) ∙ units_same r a.lane (view.noted (with_note c.note_current.new.note s) (view_of a.lane r.seats)) refl ∙ a.units;
       packed = a.packed;
+      same = a.same;
       rule = stands_as _ _ _ _ refl (ap (λ x. x.0) c.turn_noted.ensures.view ∙ (λ i. lane_turn a.lane (view.noted (with_note (c.note_current.ensures i) s)) r)) (lane.current_stands m r a.lane s c.current_in-current.result a.range c.requires.open a.rule);
     }
 

@@ -57,6 +57,7 @@ invariant_of-self c =
       range = a.range;
       units = ap (λ (x : Ruled). units_of x.seats) (ap (λ x. x.0) c.turn_noted.ensures.view) ∙ units_same r a.lane (view.noted (with_note c.note_depth.new.note s) (view_of a.lane r.seats)) refl ∙ a.units;
       packed = a.packed;
+      same = a.same;
       rule = stands_as _ _ _ _ refl (ap (λ x. x.0) c.turn_noted.ensures.view ∙ (λ i. lane_turn a.lane (view.noted (with_note ((c.note_depth.ensures ∙ ap (λ (x : ℕ). depth_noted c.args.slot x s.note) c.depth_in-depth.ensures.depth) i) s)) r)) (lane.depth_stands m r a.lane c.args.slot s a.range c.requires.open a.rule);
     }
 

@@ -41,6 +41,7 @@ invariant_of-self c =
       range = a.range;
       units = ap (λ (x : Ruled). units_of x.seats) (ap (λ x. x.0) c.turn_order_read.ensures.view) ∙ units_same r a.lane (view.order_read c.order_in-order.result (with_note c.note_order.new.note s) (view_of a.lane r.seats)) refl ∙ a.units;
       packed = a.packed;
+      same = a.same;
       rule = stands_as _ _ _ _ refl (ap (λ x. x.0) c.turn_order_read.ensures.view ∙ (λ i. lane_turn a.lane (view.order_read (c.order_in-order.ensures i) (with_note ((c.note_order.ensures ∙ ap (λ (o : Order). order_noted o s.note) c.order_in-order.ensures) i) s)) r)) (lane.order_stands m r a.lane s a.range c.requires.open c.requires.first a.rule);
     }
 

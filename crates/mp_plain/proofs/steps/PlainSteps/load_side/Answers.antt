@@ -30,6 +30,7 @@ invariant_of-self c =
       range = a.range;
       units = ap (λ (x : Ruled). units_of x.seats) known ∙ units_same r a.lane (view.passed (view_of a.lane r.seats)) refl ∙ a.units;
       packed = a.packed;
+      same = a.same;
       rule = subst (Stands m) (sym known) (passed_stands m r a.lane a.range a.rule);
     }
 

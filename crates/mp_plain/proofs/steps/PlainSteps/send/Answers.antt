@@ -27,6 +27,7 @@ use Rattle.mp_plain.specs.declared.ledger.Ruled.{Ruled}
 use Rattle.mp_plain.specs.Lanes.{lane_turn, keeper_turn, unit_turn, part_of, keeper_of, views_of, core_at}
 use Rattle.mp_plain.specs.Stands.{Stands, units_of}
 use Rattle.mp_plain.proofs.Lanes.{mirror, core_after, core_step, units_same, units_taken, stands_as}
+use Rattle.mp_plain.proofs.Words.{still_same}
 use Rattle.mp_plain.proofs.LaneKinds as lane
 use Rattle.mp_plain.proofs.KeeperKinds as keeper
 use Rattle.mp_plain.proofs.steps.PlainSteps.send.Goals as goal
@@ -57,6 +58,7 @@ invariant_of-self c =
       range = a.range;
       units = ap (λ (x : Ruled). units_of x.seats) (c.send.ensures.view) ∙ units_same r a.lane (view.flown (record { slot = c.args.slot; version = c.version_of-version.result; req = c.args.req; lane = a.lane }) (record s { sent = true }) (view_of a.lane r.seats)) refl ∙ a.units;
       packed = c.send.ensures.packed a.packed;
+      same = still_same _ _ _ _ c.send.ensures.words refl refl a.same;
       rule = stands_as _ _ _ _ c.send.ensures.words (c.send.ensures.view ∙ ap (λ (x : Flight). lane_turn a.lane (view.flown x (record s { sent = true })) r) flight) (lane.flown_stands m r a.lane c.args.slot c.args.req s a.range c.send.ensures.below c.requires.open c.requires.usable c.requires.once a.rule);
     }
 

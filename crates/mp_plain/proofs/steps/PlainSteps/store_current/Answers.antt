@@ -27,6 +27,7 @@ use Rattle.mp_plain.specs.declared.ledger.Ruled.{Ruled}
 use Rattle.mp_plain.specs.Lanes.{lane_turn, keeper_turn, unit_turn, part_of, keeper_of, views_of, core_at}
 use Rattle.mp_plain.specs.Stands.{Stands, units_of}
 use Rattle.mp_plain.proofs.Lanes.{mirror, core_after, core_step, units_same, units_taken, stands_as}
+use Rattle.mp_plain.proofs.Words.{still_same}
 use Rattle.mp_plain.proofs.LaneKinds as lane
 use Rattle.mp_plain.proofs.KeeperKinds as keeper
 use Rattle.mp_plain.proofs.steps.PlainSteps.store_current.Goals as goal
@@ -41,6 +42,7 @@ invariant_of-self c =
       range = a.range;
       units = ap (λ (x : Ruled). units_of x.seats) (c.store.ensures.view) ∙ units_same r a.lane (view.noted s (view_of a.lane r.seats)) refl ∙ a.units;
       packed = c.store.ensures.packed a.packed;
+      same = still_same _ _ _ _ c.store.ensures.words refl refl a.same;
       rule = stands_as _ _ _ _ c.store.ensures.words c.store.ensures.view (lane.stored_stands m r a.lane c.args.node s c.args.slot a.range c.store.ensures.below c.requires.open c.requires.enabled a.rule);
     }
 

@@ -82,5 +82,5 @@ returns-in-Section c =
     let low = subst (IsBelow (vec_len c.self.inside.apart)) (sym at ∙ c.in-Section.is) (at-below (vec_len c.self.inside.apart) ks c.args.place c.index.result.now (omega (arith, c.requires)) c.self.invariant.0) in
     let within : c.in-Section.like < length apart = omega (arith, low) in
     told-at c.args.self.now.events apart ks c.args.place c.index.result.now is c.requires at ∙ ap (λ k. Some (told apart k)) c.in-Section.is
-    ∙ ap (λ e. Some (retold c.in-Section.ticket e)) (same-at apart c.in-Section.like (event.At 0 word.Idle) c.index-in-Section.result.now within here)
+    ∙ ap (λ e. Some (retold c.in-Section.ticket c.in-Section.current e)) (same-at apart c.in-Section.like (event.At 0 word.Idle) c.index-in-Section.result.now within here)
     ∙ ap Some (sym c.retold.ensures)

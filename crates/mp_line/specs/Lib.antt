@@ -1,0 +1,2 @@
+-- A line of text, put together in place.
+pub mod Words
