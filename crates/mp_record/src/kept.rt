@@ -1,7 +1,7 @@
 //! How an event is kept.
 
 ghost use Rattle.std.specs.Prelude.{ℕ, ◌≡◌, ◌≤◌, IfSome, length};
-ghost use Rattle.mp_words.specs.Like.{Tells};
+ghost use Rattle.mp_words.specs.Like.{Tells, at_ticket};
 ghost use Rattle.mp_record.specs.Kept.{at_current, retold, told, IsBelow, IsInOrder};
 ghost use Rattle.mp_record.specs.declared.event.Event.TheVariants as an;
 
@@ -76,6 +76,29 @@ pub(crate) fn retold(event: &Event, ticket: u32, current: &Option<Option<Slot>>)
     }
 }
 
+/// Whether two current paths are the same, if they were read.
+fn is_same_path(a: &Option<Option<Slot>>, b: &Option<Option<Slot>>) -> bool
+    ensures { Tells result a.now b.now }
+{
+    match (a, b) {
+        (None, None) => true,
+        (Some(None), Some(None)) => true,
+        (Some(Some(a)), Some(Some(b))) => a.get() == b.get(),
+        _ => false,
+    }
+}
+
+/// Whether two notes differ in their tickets and the current paths that they read at most.
+fn is_like_elsewhere(last: &Note, note: &Note) -> bool
+    ensures { Tells result (at_ticket note.now.ticket (at_current note.now.current last.now)) note.now }
+{
+    if is_same_path(&last.current, &note.current) {
+        is_like(last, note)
+    } else {
+        is_like(&at_current(last, &note.current), note)
+    }
+}
+
 /// A section as it is kept in place, where the last event that stands apart is a section that is like it.
 pub(crate) fn kept_section(
     note: &Note,
@@ -92,7 +115,7 @@ pub(crate) fn kept_section(
         Event::Sec {
             note: last,
             moved: met,
-        } if is_like(&at_current(last, &note.current), note) && is_same_version(met, moved) => {
+        } if is_like_elsewhere(last, note) && is_same_version(met, moved) => {
             Some(Kept::Section {
                 like: like as u32,
                 ticket: note.ticket,

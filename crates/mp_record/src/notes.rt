@@ -91,7 +91,7 @@ impl LaneNotes {
         if PLACES - self.apart.len() < room {
             return Err(NoteError::NoMemory);
         }
-        reserve_eighth(&mut self.kept, room).map_err(|_| NoteError::NoMemory)?;
+        self.kept.reserve(room).map_err(|_| NoteError::NoMemory)?;
         reserve_eighth(&mut self.apart, room).map_err(|_| NoteError::NoMemory)?;
         self.room = room;
         Ok(())
