@@ -249,10 +249,10 @@ submit_puts lane before after answer made told d r n e room noted puts answers s
     puts ∙ (λ i. placed (answers i) after (noted i)) ∙ placed_so lane before.id after made.end (noting told r) (sym same) ∙ ap (λ (z : DeskView). placing lane after made.end (noting told z)) room
 
 -- a request that was put somewhere is at most one more
-pub placed_weighs : (answer : Submitted) (after : RequestView) (d r : DeskView) (events : List Event) (e : DeskView) → r ≡ d → e ≡ placed answer after (record r { events = events }) → unended e ≤ unended d + 1
-placed_weighs answer after d r events e room is = let same : unended e ≡ unended (placed answer after (record r { events = events })) = ap unended is in let even : unended r ≡ unended d = ap unended room in let more = one_more answer in omega (arith, same, even, more)
+pub placed_weighs : (answer : Submitted) (after : RequestView) (d r : DeskView) (events : List Event) (keeps : Bool) (e : DeskView) → r ≡ d → e ≡ placed answer after (record r { events = events; keeps = keeps }) → unended e ≤ unended d + 1
+placed_weighs answer after d r events keeps e room is = let same : unended e ≡ unended (placed answer after (record r { events = events; keeps = keeps })) = ap unended is in let even : unended r ≡ unended d = ap unended room in let more = one_more answer in omega (arith, same, even, more)
   where
-    one_more : (answer : Submitted) → unended (placed answer after (record r { events = events })) ≤ unended r + 1
+    one_more : (answer : Submitted) → unended (placed answer after (record r { events = events; keeps = keeps })) ≤ unended r + 1
     one_more (submitted.Sent f) = omega (arith, length-append r.flying (record { flight = f; request = after } ∷ []))
     one_more submitted.Listed = omega (arith, length-append r.out (after ∷ []))
     one_more submitted.Failed = omega arith

@@ -1,5 +1,5 @@
 -- A desk as clauses see it.
-use Rattle.std.specs.Prelude.{ℕ, ◌+◌, not, ◌==◌, List, [], ◌∷◌, ◌++◌, filter, length, Option, None, Some}
+use Rattle.std.specs.Prelude.{ℕ, Bool, ◌+◌, not, ◌==◌, List, [], ◌∷◌, ◌++◌, filter, length, Option, None, Some}
 use Rattle.mp_words.specs.declared.flight.Flight.{Flight}
 use Rattle.mp_words.specs.declared.entry.RowEntry.{RowEntry}
 use Rattle.mp_words.specs.declared.trying.Back.{Back}
@@ -10,13 +10,14 @@ use Rattle.mp_record.specs.declared.event.Event.{Event}
 use Rattle.mp_desk.specs.declared.flying.Flying.{Flying}
 
 -- The requests on their way, in the order sent; those to be listed, in order; those that ended here; the events noted;
--- and the entries of rows that were made.
+-- the entries of rows that were made; and whether the sections among the events are kept.
 pub record DeskView : Type 0 where
   pub flying : List Flying
   pub out : List RequestView
   pub ended : List RequestView
   pub events : List Event
   pub rows : List RowEntry
+  pub keeps : Bool
 
 -- how many requests the desk has that haven't ended: those on their way, and those to be listed
 abbrev pub unended : DeskView → ℕ

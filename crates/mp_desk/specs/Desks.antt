@@ -13,7 +13,7 @@ use Rattle.mp_desk.specs.Calls.{Means, Stand, DeskCall, CallTo, CallsTo, StopTo,
 
 -- what a desk has
 abbrev pub desk_of : Desk → DeskView
-desk_of d = record { flying = d.flights.flying; out = d.out.items; ended = d.ended.items; events = d.notes.events; rows = d.rows.items }
+desk_of d = record { flying = d.flights.flying; out = d.out.items; ended = d.ended.items; events = d.notes.events; rows = d.rows.items; keeps = d.notes.keeps }
 
 -- There is room for what one call adds.
 pub record HasRoom (d : Desk) : Type 0 where

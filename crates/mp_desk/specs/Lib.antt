@@ -4,5 +4,6 @@ pub mod DeskView
 pub mod Desks
 pub mod Gains
 pub mod Indexed
+pub mod Noted
 pub mod Roomy
 pub mod Says

@@ -8,9 +8,9 @@ ghost use Rattle.mp_desk.specs.Desks.{desk_of, HasRoom};
 use crate::flights::Flights;
 use crate::full::Full;
 use crate::made::Made;
+use crate::noted::Noted;
 use crate::roomy::Roomy;
 use mp_record::event::Said;
-use mp_record::notes::LaneNotes;
 use mp_words::request::Request;
 use std::alloc::Global;
 
@@ -21,20 +21,20 @@ pub struct Desk {
     pub flights: Flights,
     pub out: Roomy<Request>,
     pub ended: Roomy<Request>,
-    pub notes: LaneNotes,
+    pub notes: Noted,
     pub rows: Made,
 }
 
 impl Desk {
-    /// An empty desk. It takes no memory.
-    pub fn make(alloc: Global) -> Desk
-        ensures { desk_of result ≡ record { flying = []; out = []; ended = []; events = []; rows = [] } }
+    /// An empty desk, which keeps all that it notes, or all but the sections. It takes no memory.
+    pub fn make(alloc: Global, keeps: bool) -> Desk
+        ensures { desk_of result ≡ record { flying = []; out = []; ended = []; events = []; rows = []; keeps = keeps } }
     {
         Desk {
             flights: Flights::make(alloc),
             out: Roomy::make(alloc),
             ended: Roomy::make(alloc),
-            notes: LaneNotes::make(alloc),
+            notes: Noted::make(alloc, keeps),
             rows: Made::make(alloc),
         }
     }

@@ -16,9 +16,9 @@ use crate::desk::Desk;
 use crate::flying::Flying;
 use crate::halt::Halt;
 use crate::last::last_of;
+use crate::noted::Noted;
 use mp_core::gate::Gate;
 use mp_core::steps::Steps;
-use mp_record::notes::LaneNotes;
 use mp_submit::finish::{Finished, finish};
 use mp_words::answers::Answers;
 use mp_words::note::Note;
@@ -144,10 +144,11 @@ impl Desk {
 }
 
 /// Notes how the last try of a request ended, and answers how the request came back, where it did.
-fn note_end(notes: &mut LaneNotes, request: &Request) -> Option<Back>
+fn note_end(notes: &mut Noted, request: &Request) -> Option<Back>
     requires room { 1 ≤ notes.old.spare }
     requires tried { (made : Try) × (last_or None request.now.tries ≡ Some made) }
     ensures events { notes.new.events ≡ notes.old.events ++ end_event request.now (last_or None request.now.tries) }
+    ensures keeps { notes.new.keeps ≡ notes.old.keeps }
     ensures back { result ≡ back_in (last_or None request.now.tries) }
 {
     match request.tries().last_whole() {
@@ -158,19 +159,21 @@ fn note_end(notes: &mut LaneNotes, request: &Request) -> Option<Back>
 
 /// Notes how the last try of a request ended, which isn't kept whole, and answers how the request came back, where it did.
 #[inline(never)]
-fn note_unkept(notes: &mut LaneNotes, request: &Request) -> Option<Back>
+fn note_unkept(notes: &mut Noted, request: &Request) -> Option<Back>
     requires room { 1 ≤ notes.old.spare }
     requires tried { (made : Try) × (last_or None request.now.tries ≡ Some made) }
     ensures events { notes.new.events ≡ notes.old.events ++ end_event request.now (last_or None request.now.tries) }
+    ensures keeps { notes.new.keeps ≡ notes.old.keeps }
     ensures back { result ≡ back_in (last_or None request.now.tries) }
 {
     note_last(notes, request.id(), request.next() - 1, &last_of(request))
 }
 
 /// Notes how a try ended, and answers how its request came back, where it did.
-fn note_last(notes: &mut LaneNotes, req: ReqId, hop: u32, last: &Try) -> Option<Back>
+fn note_last(notes: &mut Noted, req: ReqId, hop: u32, last: &Try) -> Option<Back>
     requires { 1 ≤ notes.old.spare }
     ensures events { notes.new.events ≡ notes.old.events ++ event.Fin req hop last.now.statuses last.now.count last.now.back ∷ [] }
+    ensures keeps { notes.new.keeps ≡ notes.old.keeps }
     ensures back { result ≡ last.now.back }
 {
     notes.push_end(req, hop, &last.statuses, last.count, &last.back);

@@ -15,6 +15,8 @@ mod keeper;
 mod last;
 pub mod laws;
 pub mod made;
+pub mod noted;
 mod pay;
 pub mod roomy;
 mod submit;
+mod told;

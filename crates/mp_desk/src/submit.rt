@@ -15,10 +15,10 @@ use crate::desk::Desk;
 use crate::flying::Flying;
 use crate::halt::Halt;
 use crate::last::last_of;
+use crate::noted::Noted;
 use crate::pay::can_pay;
 use mp_core::gate::Gate;
 use mp_core::steps::Steps;
-use mp_record::notes::LaneNotes;
 use mp_submit::submit::{Submitted, submit};
 use mp_words::near::Near;
 use mp_words::numbered::Numbered;
@@ -109,10 +109,11 @@ impl Desk {
 }
 
 /// Notes the last try of a request, with its section.
-fn note_try(notes: &mut LaneNotes, request: &Request)
+fn note_try(notes: &mut Noted, request: &Request)
     requires room { 2 ≤ notes.old.spare }
     requires tried { (made : Try) × (last_or None request.now.tries ≡ Some made) }
-    ensures { (made : Try) → last_or None request.now.tries ≡ Some made → notes.new.events ≡ notes.old.events ++ section made.note ∷ try_event request.now made ∷ [] }
+    ensures events { (made : Try) → last_or None request.now.tries ≡ Some made → notes.new.events ≡ notes.old.events ++ section made.note ∷ try_event request.now made ∷ [] }
+    ensures keeps { notes.new.keeps ≡ notes.old.keeps }
 {
     match request.tries().last_whole() {
         Some(made) => note_made(notes, request.id(), made),
@@ -122,18 +123,20 @@ fn note_try(notes: &mut LaneNotes, request: &Request)
 
 /// Notes the last try of a request, which isn't kept whole.
 #[inline(never)]
-fn note_unkept(notes: &mut LaneNotes, request: &Request)
+fn note_unkept(notes: &mut Noted, request: &Request)
     requires room { 2 ≤ notes.old.spare }
     requires tried { (made : Try) × (last_or None request.now.tries ≡ Some made) }
-    ensures { (made : Try) → last_or None request.now.tries ≡ Some made → notes.new.events ≡ notes.old.events ++ section made.note ∷ try_event request.now made ∷ [] }
+    ensures events { (made : Try) → last_or None request.now.tries ≡ Some made → notes.new.events ≡ notes.old.events ++ section made.note ∷ try_event request.now made ∷ [] }
+    ensures keeps { notes.new.keeps ≡ notes.old.keeps }
 {
     note_made(notes, request.id(), &last_of(request));
 }
 
 /// Notes a try of a request, with its section.
-fn note_made(notes: &mut LaneNotes, req: ReqId, made: &Try)
+fn note_made(notes: &mut Noted, req: ReqId, made: &Try)
     requires { 2 ≤ notes.old.spare }
-    ensures { notes.new.events ≡ notes.old.events ++ section made.now.note ∷ event.Try req made.now.hop made.now.end ∷ [] }
+    ensures events { notes.new.events ≡ notes.old.events ++ section made.now.note ∷ event.Try req made.now.hop made.now.end ∷ [] }
+    ensures keeps { notes.new.keeps ≡ notes.old.keeps }
 {
     notes.push_section(&made.note, &None);
     notes.push_try(req, made.hop, made.end);

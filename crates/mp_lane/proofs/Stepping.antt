@@ -15,9 +15,7 @@ use Rattle.mp_lane.specs.declared.wants.Wants.{Wants}
 use Rattle.mp_lane.specs.LaneView.{LaneView, wants_next, wants_of}
 use Rattle.mp_lane.specs.Lines.{Reads, means_of, start_of}
 use Rattle.mp_lane.specs.declared.error.LaneError.{LaneError}
-use Rattle.mp_lane.specs.declared.error.LaneError.TheVariants as error
 use Rattle.mp_lane.specs.declared.stepped.Stepped.{Stepped}
-use Rattle.mp_lane.specs.declared.stepped.Stepped.TheVariants.{Ran, Ended, Spent}
 use Rattle.mp_lane.specs.Steps.{BreaksOff, ComesToEnd, Fails, IsBroken, IsSpent, Runs, RunsOn, Settles, StepTo, Stops, Told, behind, has_line, line_of, start_at}
 
 split : (rest : List Numbered1) → has_line rest ≡ true → (l : Numbered1) × (rest ≡ l ∷ behind rest)

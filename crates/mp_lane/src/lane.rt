@@ -1,12 +1,14 @@
 //! A lane.
 
-ghost use Rattle.std.specs.Prelude.{◌≡◌, ◌≤◌, ◌+◌, ◌∷◌, [], List, true, false, length, count_by, IfOk, OnErr};
+ghost use Rattle.std.specs.Prelude.{◌≡◌, ◌≤◌, ◌+◌, ◌∷◌, [], List, true, false, filter, length, count_by, IfOk, OnErr};
 ghost use Rattle.std.specs.List.{AllByRecursion};
 ghost use Rattle.mp_desk.specs.Calls.{EndsAll, IsWaiting, Sits};
 ghost use Rattle.mp_desk.specs.Desks.{stand, KeepsStand, Leaves};
 ghost use Rattle.mp_desk.specs.DeskView.{unended};
 ghost use Rattle.mp_desk.specs.Gains.{Gains, UsesSections};
+ghost use Rattle.mp_desk.specs.Noted.{kept_of};
 ghost use Rattle.mp_keep.specs.Keeper.{KeeperView, StandsTo};
+ghost use Rattle.mp_record.specs.RunView.{is_plain};
 ghost use Rattle.mp_script.specs.declared.script.Numbered1.{Numbered1};
 ghost use Rattle.mp_lane.specs.Lines.{reads_of};
 ghost use Rattle.mp_lane.specs.Steps.{behind, has_line, line_of, start_at, HasNoKeeperLine, IsBroken, IsToStep, MayRead, Runs, RunsBeside, Settles, StepTo};
@@ -22,6 +24,7 @@ use mp_core::steps::{KeeperSteps, Steps};
 use mp_desk::desk::Desk;
 use mp_desk::halt::Halt;
 use mp_desk::laws::{a_lanes_calls_use_a_unit_for_each_section, calls_note_what_the_pass_gains};
+use mp_desk::noted::Noted;
 use mp_desk::roomy::Roomy;
 use mp_keep::keeper::Keeper;
 use mp_record::notes::LaneNotes;
@@ -64,7 +67,23 @@ impl Model for Lane {
 impl Lane {
     /// A lane that has run nothing yet. It takes no memory.
     pub fn make(alloc: Global, id: LaneId, plan: LanePlan) -> Lane
-        ensures lane { result ≡ record { id = id; keeper = plan.keeper; rest = plan.lines; list = []; listed = false; over = false; desk = record { flying = []; out = []; ended = []; events = []; rows = [] } } }
+        ensures lane { result ≡ record { id = id; keeper = plan.keeper; rest = plan.lines; list = []; listed = false; over = false; desk = record { flying = []; out = []; ended = []; events = []; rows = []; keeps = true } } }
+        ensures weight { weight_of result ≡ count_by (λ l. submits l.line) plan.lines }
+    {
+        Lane::beginning(alloc, id, plan, true)
+    }
+
+    /// A lane that has run nothing yet, and keeps no section that it notes. It takes no memory.
+    pub fn make_plain(alloc: Global, id: LaneId, plan: LanePlan) -> Lane
+        ensures lane { result ≡ record { id = id; keeper = plan.keeper; rest = plan.lines; list = []; listed = false; over = false; desk = record { flying = []; out = []; ended = []; events = []; rows = []; keeps = false } } }
+        ensures weight { weight_of result ≡ count_by (λ l. submits l.line) plan.lines }
+    {
+        Lane::beginning(alloc, id, plan, false)
+    }
+
+    /// A lane that has run nothing yet, and keeps the sections that it notes, or doesn't.
+    fn beginning(alloc: Global, id: LaneId, plan: LanePlan, keeps: bool) -> Lane
+        ensures lane { result ≡ record { id = id; keeper = plan.keeper; rest = plan.lines; list = []; listed = false; over = false; desk = record { flying = []; out = []; ended = []; events = []; rows = []; keeps = keeps } } }
         ensures weight { weight_of result ≡ count_by (λ l. submits l.line) plan.lines }
     {
         Lane {
@@ -75,7 +94,7 @@ impl Lane {
             list: Vec::new(alloc),
             listed: false,
             over: false,
-            desk: Desk::make(alloc),
+            desk: Desk::make(alloc, keeps),
         }
     }
 
@@ -352,10 +371,41 @@ impl Lane {
         self.over = true;
     }
 
-    /// The notes, the row entries that the lane made, and the requests that ended here.
+    /// The notes, the row entries that the lane made, and the requests that ended here. A lane that keeps no section has
+    /// none among its notes.
     pub fn close(self) -> (LaneNotes, Vec<RowEntry>, Vec<Request>)
         requires { wants_of self ≡ Wants.Nothing }
-        ensures notes { result.0.events ≡ self.desk.events }
+        ensures notes { result.0.events ≡ kept_of self.desk.keeps self.desk.events }
+        ensures rows { result.1.items ≡ self.desk.rows }
+        ensures ended { result.2.items ≡ self.desk.ended }
+    {
+        let (notes, rows, ended) = self.parts();
+        (notes.into_kept(), rows, ended)
+    }
+
+    /// The same with the notes but for the sections, whether they were kept or not.
+    ///
+    /// # Errors
+    ///
+    /// `NoMemory` where memory runs out.
+    pub fn close_plain(self) -> Result<(LaneNotes, Vec<RowEntry>, Vec<Request>), LaneError>
+        requires { wants_of self ≡ Wants.Nothing }
+        ensures notes { IfOk result (λ closed. closed.0.events ≡ filter is_plain self.desk.events) }
+        ensures rows { IfOk result (λ closed. closed.1.items ≡ self.desk.rows) }
+        ensures ended { IfOk result (λ closed. closed.2.items ≡ self.desk.ended) }
+    {
+        let alloc = self.alloc;
+        let (notes, rows, ended) = self.parts();
+        match notes.into_plain(alloc) {
+            Ok(plain) => Ok((plain, rows, ended)),
+            Err(_) => Err(LaneError::NoMemory),
+        }
+    }
+
+    /// What was noted, the row entries that the lane made, and the requests that ended here.
+    fn parts(self) -> (Noted, Vec<RowEntry>, Vec<Request>)
+        ensures events { result.0.events ≡ self.desk.events }
+        ensures keeps { result.0.keeps ≡ self.desk.keeps }
         ensures rows { result.1.items ≡ self.desk.rows }
         ensures ended { result.2.items ≡ self.desk.ended }
     {

@@ -15,6 +15,7 @@ use crate::telling::told;
 use mp_core::gate::NoGate;
 use mp_core::steps::Steps;
 use mp_desk::desk::Desk;
+use mp_desk::noted::Noted;
 use mp_keep::keeper::Keeper;
 use mp_plain::plain::Plain;
 use mp_record::event::Said;
@@ -24,15 +25,16 @@ use mp_words::op::{Gift, Op};
 use mp_words::request::Request;
 use mp_words::row::{CState, Policy};
 use std::alloc::{AllocError, Global};
+use std::mem;
 use std::test::Fail;
 
-/// An empty desk, at which a pass sits that has made no step yet.
-fn desk_at(alloc: Global, plain: &Plain) -> Desk
+/// An empty desk, at which a pass sits that has made no step yet. It keeps the sections that it notes, or doesn't.
+fn desk_at(alloc: Global, plain: &Plain, keeps: bool) -> Desk
     requires closed { (told_core plain.now).view.inside ≡ None }
     requires flights { (told_core plain.now).view.flights ≡ [] }
     ensures { Sits (told_core plain.now) (desk_of result) }
 {
-    Desk::make(alloc)
+    Desk::make(alloc, keeps)
 }
 
 /// An empty desk, and the keeper of the words of two paths, over which nobody has stepped yet.
@@ -40,7 +42,13 @@ fn office(alloc: Global, plain: &Plain) -> (Desk, Keeper)
     requires { told_core plain.now ≡ core_begun (told_core plain.now).home (record { words = two_path_words; allowance = 100 }) }
     ensures { IsKept (desk_of result.0) result.1 (told_core plain.now) }
 {
-    (desk_at(alloc, plain), keeper_of(alloc, plain))
+    (desk_at(alloc, plain, true), keeper_of(alloc, plain))
+}
+
+/// What a desk noted, told line by line. It is taken from the desk.
+fn noted(alloc: Global, desk: &mut Desk) -> Result<String, AllocError> {
+    let notes = mem::replace(&mut desk.notes, Noted::make(alloc, true));
+    told(alloc, &notes.into_kept())
 }
 
 /// A new request.
@@ -168,7 +176,7 @@ fn the_keepers_calls_are_noted(rt: HostRuntime) -> Result<(), Fail> {
     assert!(rt; reap(&mut desk, &mut plain, &mut keeper, 7));
     let want = "at 1 policy 1\nat 2 added 2 1 2\nat 3 already 2\nat 4 marked 0 1\n\
         at 5 no-path 2\nat 6 freed 0 2 2\nat 7 idle\n";
-    assert_eq!(rt; told(alloc, &desk.notes)?.as_str(), want);
+    assert_eq!(rt; noted(alloc, &mut desk)?.as_str(), want);
     let rows = desk.rows.into_vec();
     assert_eq!(rt; rows.len(), 3);
     Ok(())
@@ -193,7 +201,7 @@ fn a_failover_sets_pending(rt: HostRuntime) -> Result<(), Fail> {
     assert_eq!(rt; plain.left(), 94);
     let want = "at 1 added 2 1 1\nsec 0 0\nat 2 changed 0 1\nsec 0 1\nat 3 changed 1 1\n\
         sec 0 2\ntry 7 1 sent 2 1\nsec 0 3\nfin 7 1 1 0302 back 2:2\n";
-    assert_eq!(rt; told(alloc, &desk.notes)?.as_str(), want);
+    assert_eq!(rt; noted(alloc, &mut desk)?.as_str(), want);
     assert_eq!(rt; desk.out.as_slice().len(), 1);
     assert_eq!(rt; desk.ended.as_slice().len(), 0);
     let rows = desk.rows.into_vec();
@@ -207,10 +215,23 @@ fn a_failover_sets_pending(rt: HostRuntime) -> Result<(), Fail> {
 }
 
 #[test]
+fn a_desk_keeps_no_section(rt: HostRuntime) -> Result<(), Fail> {
+    let alloc = rt.alloc();
+    let mut plain = Plain::make(alloc, &two_paths(), 100)?;
+    let mut desk = desk_at(alloc, &plain, false);
+    let answers = Answers::make(alloc);
+    assert!(rt; send(&mut desk, &mut plain, new_request(alloc, 7)));
+    assert!(rt; end(&mut desk, &mut plain, &answers, &None));
+    let want = "try 7 1 sent 0 0\nfin 7 1 1 0000 done\n";
+    assert_eq!(rt; noted(alloc, &mut desk)?.as_str(), want);
+    Ok(())
+}
+
+#[test]
 fn a_number_flies_twice(rt: HostRuntime) -> Result<(), Fail> {
     let alloc = rt.alloc();
     let mut plain = Plain::make(alloc, &two_paths(), 100)?;
-    let mut desk = desk_at(alloc, &plain);
+    let mut desk = desk_at(alloc, &plain, true);
     let mut answers = Answers::make(alloc);
     let id = ReqId::make(7).unwrap();
     answers.add(id, 1, 0x4302)?;
@@ -228,7 +249,7 @@ fn a_number_flies_twice(rt: HostRuntime) -> Result<(), Fail> {
     assert_eq!(rt; plain.left(), 97);
     let want = "at 2 requeue 2\nsec 0 0\ntry 7 1 sent 0 0\nsec 0 1\ntry 7 1 sent 0 0\n\
         sec 0 2\ntry 6 1 sent 0 0\nfin 7 1 1 4302 done\nfin 7 1 1 4302 done\nfin 6 1 1 0000 done\n";
-    assert_eq!(rt; told(alloc, &desk.notes)?.as_str(), want);
+    assert_eq!(rt; noted(alloc, &mut desk)?.as_str(), want);
     assert_eq!(rt; desk.ended.as_slice().len(), 3);
     assert_eq!(rt; desk.out.as_slice().len(), 0);
     Ok(())

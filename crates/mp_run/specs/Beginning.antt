@@ -6,9 +6,9 @@ use Rattle.mp_lane.specs.LaneView.{LaneView}
 use Rattle.mp_legal.specs.ToldState.{Beside}
 use Rattle.mp_run.specs.Runner.{Story}
 
--- a desk without anything
+-- a desk without anything, which keeps no section
 abbrev pub empty_desk : DeskView
-empty_desk = record { flying = []; out = []; ended = []; events = []; rows = [] }
+empty_desk = record { flying = []; out = []; ended = []; events = []; rows = []; keeps = false }
 
 -- a lane of this number and plan that has run nothing yet
 abbrev pub first_lane : ℕ × LanePlan → LaneView

@@ -46,7 +46,7 @@ no_lane = record {
   list = [];
   listed = false;
   over = true;
-  desk = record { flying = []; out = []; ended = []; events = []; rows = [] };
+  desk = record { flying = []; out = []; ended = []; events = []; rows = []; keeps = false };
 }
 
 -- the lane of a number

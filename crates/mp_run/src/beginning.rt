@@ -35,7 +35,7 @@ fn lanes_of(alloc: Global, plans: &[LanePlan]) -> Result<Vec<Lane>, RunError>
         let Ok(copy) = plan.copy(alloc) else {
             return Err(RunError::NoMemory);
         };
-        lanes.push(Lane::make(alloc, lane_of(place), copy))?;
+        lanes.push(Lane::make_plain(alloc, lane_of(place), copy))?;
     }
     Ok(lanes)
 }
@@ -71,6 +71,6 @@ pub fn begin(
         keeper: Keeper::make(alloc, order, owners_of(&rows)),
         lanes,
         list: Private::make(alloc),
-        drain: Desk::make(alloc),
+        drain: Desk::make(alloc, false),
     })
 }

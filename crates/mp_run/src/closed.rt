@@ -31,8 +31,7 @@ fn close(closed: &mut Closed, alloc: Global, lane: Lane) -> Result<(), RunError>
 {
     // The proof of a push needs each type inside notes named here.
     let _: Option<Event> = None;
-    let (notes, mut rows, mut ended) = lane.close();
-    let Ok(notes) = notes.without_sections(alloc) else {
+    let Ok((notes, mut rows, mut ended)) = lane.close_plain() else {
         return Err(RunError::NoMemory);
     };
     closed.notes.push(notes)?;

@@ -127,7 +127,7 @@ pub fn gathered(
         rows,
     } = drain;
     let closed = close_all(alloc, lanes)?;
-    let Ok(drained) = notes.without_sections(alloc) else {
+    let Ok(drained) = notes.into_plain(alloc) else {
         return Err(RunError::NoMemory);
     };
     let requests = requests_in(closed.ended, list.take_all(), ended.into_vec())?;

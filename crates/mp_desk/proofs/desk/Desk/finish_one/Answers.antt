@@ -126,7 +126,7 @@ loop-preserved g c =
     let slot : c.moved.inside.slot ≡ c.in-Moved.again.slot = ap (λ f. f.slot) (c.moved.view_is ∙ c.of.ensures) in
     goes_on c.args.answers.now c.args.flying (g.S.Steps.core c.args.steps.now) (g.S.Steps.core c.loop.steps) (g.S.Steps.core c.finish.new.steps) (desk_of c.args.self.now) (desk_of c.loop.self) _ (desk_of c.reserve.new.self) c.loop.request c.finish.new.request c.in-Moved.again c.in-Moved.row c.in-Moved.note c.loop.counter c.left-end.result c.loop.invariant
     (subst (λ f. Finishes c.args.answers.now (g.S.Steps.core c.loop.steps) (g.S.Steps.core c.finish.new.steps) f c.loop.request c.finish.new.request (finished.Moved c.in-Moved.again c.in-Moved.row c.in-Moved.note)) c.flight-in-loop.ensures c.in-Moved.ensures) c.reserve.ensures.desk
-    (λ i. record (desk_of c.reserve.new.self) { events = (c.push_section.ensures.events ∙ (λ j. c.reserve.new.self.notes.events ++ moved_section c.in-Moved.note (slot j) c.in-Moved.row.version ∷ [])) i }) c.loop-test.true
+    (λ i. record (desk_of c.reserve.new.self) { events = (c.push_section.ensures.events ∙ (λ j. c.reserve.new.self.notes.events ++ moved_section c.in-Moved.note (slot j) c.in-Moved.row.version ∷ [])) i; keeps = c.push_section.ensures.keeps i }) c.loop-test.true
 
 pub returns-clause-does : goal.returns-clause-does
 returns-clause-does g c near line k =

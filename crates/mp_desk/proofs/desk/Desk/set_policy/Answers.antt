@@ -25,7 +25,7 @@ returns-clause-does g c near answers = record {
     room = c.reserve_with.new.keeper.spare;
     entry = c.set_policy-entry.result;
     sets = subst (λ (z : KeeperView). SetsPolicy z c.set_policy-entry.new.self (g.S.Steps.core c.args.steps.now) (g.S.Steps.core c.set_policy-entry.new.steps) c.args.policy (maker.Line (g.S.Steps.core c.args.steps.now).lane c.args.line) c.set_policy-entry.result) c.reserve_with.ensures.keeper (subst (λ n. SetsPolicy c.reserve_with.new.keeper c.set_policy-entry.new.self (g.S.Steps.core c.args.steps.now) (g.S.Steps.core c.set_policy-entry.new.steps) c.args.policy (maker.Line n c.args.line) c.set_policy-entry.result) c.lane.ensures c.set_policy-entry.ensures);
-    desk = (λ i. record (desk_of c.reserve_with.new.self) { events = c.push_said.ensures.events i }) ∙ (λ i. noting (event.At c.args.line (said.Policy c.set_policy-entry.result.order.version) ∷ []) (c.reserve_with.ensures.desk i));
+    desk = (λ i. record (desk_of c.reserve_with.new.self) { events = c.push_said.ensures.events i; keeps = c.push_said.ensures.keeps i }) ∙ (λ i. noting (event.At c.args.line (said.Policy c.set_policy-entry.result.order.version) ∷ []) (c.reserve_with.ensures.desk i));
   };
 }
 
@@ -33,7 +33,7 @@ pub returns-clause-leaves : goal.returns-clause-leaves
 returns-clause-leaves g c =
     stays_leaves (g.S.Steps.core c.args.steps.now) (g.S.Steps.core c.set_policy-entry.new.steps) (desk_of c.args.self.now) (desk_of c.reserve_with.new.self) _ [] (event.At c.args.line (said.Policy c.set_policy-entry.result.order.version) ∷ []) c.set_policy-entry.new.self
     (sets_stays c.reserve_with.new.keeper c.set_policy-entry.new.self (g.S.Steps.core c.args.steps.now) (g.S.Steps.core c.set_policy-entry.new.steps) c.args.policy _ c.set_policy-entry.result c.set_policy-entry.ensures c.requires.sits.closed) c.requires.sits c.reserve_with.ensures.desk
-    (λ i. record (desk_of c.reserve_with.new.self) { events = c.push_said.ensures.events i; rows = sym (append-nil c.reserve_with.new.self.rows.items) i }) c.set_policy-entry.ensures.stands
+    (λ i. record (desk_of c.reserve_with.new.self) { events = c.push_said.ensures.events i; keeps = c.push_said.ensures.keeps i; rows = sym (append-nil c.reserve_with.new.self.rows.items) i }) c.set_policy-entry.ensures.stands
 
 pub returns-then-is_err-clause-weight : goal.returns-then-is_err-clause-weight
 returns-then-is_err-clause-weight g c = room_weighs (desk_of c.args.self.now) (desk_of c.reserve_with.new.self) c.reserve_with.ensures.desk

@@ -21,7 +21,7 @@ returns-clause-does g c answers line k =
         made = c.submit-answer.ensures.0;
         same = λ i. record { id = c.reserve-else-is_err.ensures.id i; node = c.reserve-else-is_err.ensures.node i; tries = c.reserve-else-is_err.ensures.tries i; spare = 0 };
         submits = c.submit-answer.ensures.1;
-        desk = submit_puts (g.S.Steps.core c.args.steps.now).lane c.reserve-else-is_err.new.self after _ made _ (desk_of c.args.self.now) (desk_of c.reserve.new.self) _ _ c.reserve.ensures.desk (λ i. record (desk_of c.reserve.new.self) { events = c.note_try.ensures made (last_made _ _ _ _ _ _ _ h) i }) c.put.ensures h.answer_is h.id;
+        desk = submit_puts (g.S.Steps.core c.args.steps.now).lane c.reserve-else-is_err.new.self after _ made _ (desk_of c.args.self.now) (desk_of c.reserve.new.self) _ _ c.reserve.ensures.desk (λ i. record (desk_of c.reserve.new.self) { events = c.note_try.ensures.events made (last_made _ _ _ _ _ _ _ h) i; keeps = c.note_try.ensures.keeps i }) c.put.ensures h.answer_is h.id;
         keeper = refl;
       };
     }
@@ -32,11 +32,11 @@ returns-clause-leaves g c =
     let h = c.submit-answer.ensures.1 in
     let after = c.submit-answer.new.request in
     submit_leaves _ _ _ c.reserve-else-is_err.new.self after _ made _ (desk_of c.args.self.now) _ h c.requires.sits
-    (submit_puts (g.S.Steps.core c.args.steps.now).lane c.reserve-else-is_err.new.self after _ made _ (desk_of c.args.self.now) (desk_of c.reserve.new.self) _ _ c.reserve.ensures.desk (λ i. record (desk_of c.reserve.new.self) { events = c.note_try.ensures made (last_made _ _ _ _ _ _ _ h) i }) c.put.ensures h.answer_is h.id)
+    (submit_puts (g.S.Steps.core c.args.steps.now).lane c.reserve-else-is_err.new.self after _ made _ (desk_of c.args.self.now) (desk_of c.reserve.new.self) _ _ c.reserve.ensures.desk (λ i. record (desk_of c.reserve.new.self) { events = c.note_try.ensures.events made (last_made _ _ _ _ _ _ _ h) i; keeps = c.note_try.ensures.keeps i }) c.put.ensures h.answer_is h.id)
 
 pub returns-clause-stands : goal.returns-clause-stands
 returns-clause-stands g c = submit_stands _ _ _ _ _ _ _ c.submit-answer.ensures.1
 
 pub returns-clause-weight : goal.returns-clause-weight
 returns-clause-weight g c =
-    placed_weighs c.submit-answer.result c.submit-answer.new.request (desk_of c.args.self.now) (desk_of c.reserve.new.self) c.note_try.new.notes.events (desk_of c.put.new.self) c.reserve.ensures.desk c.put.ensures
+    placed_weighs c.submit-answer.result c.submit-answer.new.request (desk_of c.args.self.now) (desk_of c.reserve.new.self) c.note_try.new.notes.events c.note_try.new.notes.keeps (desk_of c.put.new.self) c.reserve.ensures.desk c.put.ensures
